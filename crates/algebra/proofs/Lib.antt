@@ -1,0 +1,12 @@
+pub mod Ring
+pub mod Poly
+pub mod Cauchy
+pub mod Distance
+pub mod Rows
+pub mod Solve
+pub mod Hiding
+pub mod Codes
+pub mod OnCodes
+pub mod Elim
+pub mod Cells
+pub mod Steps

@@ -1,0 +1,4 @@
+pub mod Field
+pub mod Codes
+pub mod Flat
+pub mod Theorems
