@@ -1,0 +1,70 @@
+// Examples of the libraries at work, proved and run.
+#[cfg(test)]
+mod plain;
+
+#[cfg(test)]
+mod tests {
+    use crate::plain::Plain;
+    use crate::plain::PlainField;
+    use algebra::eliminate;
+    use field::Field;
+    use field::gf256::Gf256;
+    use field::gf256::Gf256Field;
+    use field::gf256::product;
+    use field::mod257::Mod257;
+    use field::mod257::Mod257Field;
+    use std::test::*;
+
+    // 57 times 83 is C1, also by whole rows.
+    #[test]
+    fn multiple_added() -> Result<(), Fail> {
+        let row = [0x83u16, 1, 0];
+        let mut out = [0u16, 1, 2];
+        let mut scratch = [7u16; 3];
+        Gf256::add_multiple(&mut out, &row, 0x57, &mut scratch);
+        check_eq(out, [0xc1, 0x56, 2])?;
+        check_eq(scratch, [0; 3])?;
+        check_eq(product(0x57, 0x83), 0xc1)
+    }
+
+    // The row 256 0 5 times 256.
+    #[test]
+    fn row_scaled() -> Result<(), Fail> {
+        let mut row = [256u16, 0, 5];
+        let mut scratch = [1u16; 3];
+        Mod257::scale_row(&mut row, 256, &mut scratch);
+        check_eq(row, [1, 0, 252])?;
+        check_eq(scratch, [0; 3])
+    }
+
+    // Doublings and the scalar bodies of the trait agree.
+    #[test]
+    fn both_ways() -> Result<(), Fail> {
+        let factors = [0u16, 1, 0x80, 0xff];
+        let mut fast = [0u16, 3, 5, 9, 0x11, 0x21, 0x41, 0x81];
+        let mut slow = fast;
+        let mut row = [0xb6u16, 0x53];
+        let mut again = row;
+        Gf256::spread(&mut fast, &factors, &mut row);
+        Plain::spread(&mut slow, &factors, &mut again);
+        check_eq(fast, slow)?;
+        check_eq(row, again)?;
+        let other = [1u16, 2, 4, 8, 16, 32, 64, 128];
+        Gf256::add_row(&mut fast, &other);
+        Plain::add_row(&mut slow, &other);
+        check_eq(fast, slow)
+    }
+
+    // x + y = 7 and x + 2 y = 5 in GF(2^8), two right sides at once.
+    #[test]
+    fn system_solved() -> Result<(), Fail> {
+        let mut rows = [1u16, 1, 7, 0, 1, 2, 5, 1];
+        let mut factors = [0u16; 2];
+        let mut row = [0u16; 4];
+        eliminate::<Gf256Field>(&mut rows, &mut factors, &mut row);
+        check_eq(rows[2] ^ rows[6], 7)?;
+        check_eq(rows[2] ^ Gf256::mul(2, rows[6] & 0xff), 5)?;
+        check_eq(rows[3] ^ rows[7], 0)?;
+        check_eq(rows[3] ^ Gf256::mul(2, rows[7] & 0xff), 1)
+    }
+}
