@@ -3,6 +3,7 @@ use mathlib.Core.Path.{_≡_}
 use mathlib.Core.Logic.{_≢_}
 use mathlib.Core.Bool.{Bool, cond}
 use Prim.Native.Nat.{ℕ, zero, suc, _<_}
+pub use Rattle.field.specs.Sums.{sum}
 
 -- a field on a type F with zero o and one e, its laws with no premises
 pub record Field {F : Type 0} (o e : F) (add mul : F → F → F) (neg inv : F → F) : Type 0 where
@@ -17,11 +18,6 @@ pub record Field {F : Type 0} (o e : F) (add mul : F → F → F) (neg inv : F �
   pub mul-one : (a : F) → mul a e ≡ a
   pub mul-inv : (a : F) → a ≢ o → mul a (inv a) ≡ e
   pub mul-add : (a b c : F) → mul a (add b c) ≡ add (mul a b) (mul a c)
-
--- f 0 + ... + f (n - 1), from the left
-unfoldable pub sum : {F : Type 0} → F → (F → F → F) → ℕ → (ℕ → F) → F
-sum o add zero f = o
-sum o add (suc n) f = add (sum o add n f) (f n)
 
 -- x to the power n
 unfoldable pub power : {F : Type 0} → F → (F → F → F) → F → ℕ → F

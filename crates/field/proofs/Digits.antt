@@ -50,7 +50,7 @@ module _ {K : Ops} (L : FieldLaws K) where
       (L .mul-comm x (K .mul 2 h) lx w ∙ ap (λ (z : ℕ). K .mul z x) (L .mul-comm 2 h l2 lh) ∙ L .mul-assoc h 2 x lh l2 lx)
 
   -- a, with x added where the digit is 1, is a + d x
-  gained-is : (d a x : ℕ) → d < 2 → a < K .order → x < K .order → gained K d a x ≡ K .add a (K .mul d x)
+  pub gained-is : (d a x : ℕ) → d < 2 → a < K .order → x < K .order → gained K d a x ≡ K .add a (K .mul d x)
   gained-is zero a x h la lx = sym (ap (K .add a) (zero-mul x lx) ∙ L .add-zero a la)
   gained-is (suc zero) a x h la lx = ap (K .add a) (sym (one-mul x lx))
   gained-is (suc (suc n)) a x h la lx = absurd (omega arith)

@@ -10,3 +10,4 @@ pub mod Digits
 pub mod Parts
 pub mod Rows
 pub mod Where
+pub mod Combining

@@ -1,4 +1,5 @@
 pub mod Laws
+pub mod Sums
 pub mod Rows
 pub mod Search
 pub mod Digits

@@ -3,8 +3,8 @@ ghost use mathlib.Core.Path.{_≡_};
 ghost use Prim.Native.Nat.{ℕ, _*_, _/_, _%_, _^_, _<_};
 ghost use lib.ListN.{getD, length};
 ghost use Rattle.field.specs.Laws.{Codes, FieldLaws, Ops};
-ghost use Rattle.field.specs.Rows.{Gain-multiples, Gains, Multiple, Wiped};
-ghost use Rattle.field.specs.Digits.{Digits, Gain-where};
+ghost use Rattle.field.specs.Rows.{Combined, Gain-multiples, Gains, Multiple, Wiped};
+ghost use Rattle.field.specs.Digits.{Digits, Gain-where, Gathered};
 
 // A field whose codes are read in base two: a code is its lowest digit plus the element coded 2 times the code of the rest.
 pub trait Doubling {
@@ -68,4 +68,39 @@ pub fn spread<D: Doubling>(rows: &mut [u16], factors: &[u16], row: &mut [u16])
         D::double_row(row);
     }
     row.fill(0);
+}
+
+// Adds to out those of the rows whose factor has the digit 1 at this place.
+fn gather<D: Doubling>(out: &mut [u16], rows: &[u16], factors: &[u16], place: u32)
+    requires size { ⌜ length (now rows) ≡ length (now factors) * length (now out) ⌝ }
+    requires place { ⌜ place < 16 ⌝ }
+    requires sums { ⌜ Codes (arith .order) (now out) ⌝ }
+    requires codes { ⌜ Codes (arith .order) (now rows) ⌝ }
+    ensures codes { λ _. ⌜ Codes (arith .order) (now (out .exit)) ⌝ }
+    ensures value { λ _. ⌜ Gathered arith place (now (out .entry)) (now (rows .entry)) (now (factors .entry)) (now (out .exit)) ⌝ }
+{
+    let len = out.len();
+    for r in 0..factors.len() {
+        if (factors[r] >> place) % 2 == 1 {
+            let from = r * len;
+            D::plus_row(out, &rows[from..from + len]);
+        }
+    }
+}
+
+// The sum over the rows of factor times row. From the highest digit of the factors down, what is there is doubled and the
+// rows with that digit are added: one doubling for each digit, however many rows there are.
+pub fn combine<D: Doubling>(out: &mut [u16], rows: &[u16], factors: &[u16])
+    requires size { ⌜ length (now rows) ≡ length (now factors) * length (now out) ⌝ }
+    requires codes { ⌜ Codes (arith .order) (now rows) ⌝ }
+    requires factors { ⌜ Codes (arith .order) (now factors) ⌝ }
+    ensures codes { λ _. ⌜ Codes (arith .order) (now (out .exit)) ⌝ }
+    ensures value { λ _. ⌜ Combined arith (now (rows .entry)) (now (factors .entry)) (now (out .exit)) ⌝ }
+{
+    out.fill(0);
+    let places = D::places();
+    for step in 0..places {
+        D::double_row(out);
+        gather::<D>(out, rows, factors, places - 1 - step);
+    }
 }

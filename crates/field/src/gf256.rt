@@ -70,6 +70,10 @@ pub impl Field for Gf256 as Gf256Field {
     fn spread(rows: &mut [u16], factors: &[u16], row: &mut [u16]) {
         doublings::spread::<Gf256>(rows, factors, row);
     }
+
+    fn combine(out: &mut [u16], rows: &[u16], factors: &[u16]) {
+        doublings::combine::<Gf256>(out, rows, factors);
+    }
 }
 
 impl Doubling for Gf256 as Gf256Doubling {

@@ -2,7 +2,7 @@ ghost use mathlib.Core.Path.{_≡_};
 ghost use Prim.Native.Nat.{ℕ, _*_, _<_};
 ghost use lib.ListN.{getD, length};
 ghost use Rattle.field.specs.Laws.{Bounds, Codes, FieldLaws, Ops};
-ghost use Rattle.field.specs.Rows.{Gain-multiples, Gains, Gains-multiple, Multiple, Wiped};
+ghost use Rattle.field.specs.Rows.{Combined, Gain-multiples, Gains, Gains-multiple, Multiple, Wiped};
 ghost use Rattle.field.specs.Worked.{Worked-sums};
 
 mod doublings;
@@ -82,6 +82,23 @@ pub trait Field {
             rows[i] = Self::add(rows[i], term);
         }
         row.fill(0);
+    }
+
+    // Writes a sum of multiples: at each place, the sum over the rows of factor times row. The rows stand one behind the
+    // other, each as long as out.
+    fn combine(out: &mut [u16], rows: &[u16], factors: &[u16])
+        requires size { ⌜ length (now rows) ≡ length (now factors) * length (now out) ⌝ }
+        requires codes { ⌜ Codes (ops .order) (now rows) ⌝ }
+        requires factors { ⌜ Codes (ops .order) (now factors) ⌝ }
+        ensures codes { λ _. ⌜ Codes (ops .order) (now (out .exit)) ⌝ }
+        ensures value { λ _. ⌜ Combined ops (now (rows .entry)) (now (factors .entry)) (now (out .exit)) ⌝ }
+    {
+        out.fill(0);
+        let len = out.len();
+        for i in 0..rows.len() {
+            let term = Self::mul(factors[i / len], rows[i]);
+            out[i % len] = Self::add(out[i % len], term);
+        }
     }
 
     // Adds c times a row to a row; the scratch row holds zeros then.

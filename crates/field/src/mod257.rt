@@ -55,6 +55,10 @@ pub impl Field for Mod257 as Mod257Field {
     fn spread(rows: &mut [u16], factors: &[u16], row: &mut [u16]) {
         doublings::spread::<Mod257>(rows, factors, row);
     }
+
+    fn combine(out: &mut [u16], rows: &[u16], factors: &[u16]) {
+        doublings::combine::<Mod257>(out, rows, factors);
+    }
 }
 
 impl Doubling for Mod257 as Mod257Doubling {

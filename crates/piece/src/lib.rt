@@ -1,0 +1,10 @@
+// Pieces of a job: settings, cutting and reading.
+pub mod bits;
+
+// How a job is cut: the kind of rows (0 Vandermonde, 1 Cauchy), how many pieces bring it back, and how many there are.
+#[derive(Clone, Copy, Debug, PartialEq)]
+pub struct Settings {
+    pub rows: u8,
+    pub m: u8,
+    pub n: u8,
+}
