@@ -4,7 +4,8 @@ use mathlib.Core.Logic.{_≢_}
 use Prim.Native.Nat.{ℕ, zero, suc, _<_}
 use native.Mathlib.Omega.{arith}
 use native.Mathlib.Decide.{ℕ-discrete}
-use Rattle.algebra.specs.Field.{Field, sum, eval, Distinct, Zeros, Kernel, AnyRows}
+use Rattle.field.specs.Sums.{sum}
+use Rattle.algebra.specs.Field.{Field, eval, Distinct, Zeros, Kernel, AnyRows}
 use Rattle.algebra.proofs.Ring.{ring, add-assoc, add-zero, zero-add, mul-zero, zero-mul, one-mul, mul-assoc, mul-comm, mul-add, add-neg, sub-not-zero, mul-cancel-zero, mul-not-zero}
 use Rattle.algebra.proofs.Poly.{roots}
 

@@ -7,7 +7,8 @@ use native.Mathlib.Omega.{arith}
 use native.Mathlib.Decide.{Fin·val-path, Fin-discrete}
 use Rattle.field.specs.Laws.{Ops, FieldLaws}
 use Rattle.algebra.specs.Field as abstract
-use Rattle.algebra.specs.Field.{Field, sum, Distinct, Kernel, Units, Swapped, Scaled, Added, Cleared}
+use Rattle.field.specs.Sums.{sum}
+use Rattle.algebra.specs.Field.{Field, Distinct, Kernel, Units, Swapped, Scaled, Added, Cleared}
 use Rattle.algebra.specs.Codes.{Below, Rows, dot, power, eval, Solves, Regular, Same-solutions}
 use Rattle.algebra.proofs.Ring.{sum-same}
 use Rattle.algebra.proofs.Rows.{split-at}

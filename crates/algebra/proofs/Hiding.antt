@@ -3,7 +3,8 @@ use mathlib.Core.Path.{_≡_, refl, sym, _∙_, ap}
 use mathlib.Core.Logic.{_≢_}
 use Prim.Native.Nat.{ℕ, zero, suc, _<_, _≤_}
 use native.Mathlib.Omega.{arith}
-use Rattle.algebra.specs.Field.{Field, sum, dot, Distinct, Kernel, identity}
+use Rattle.field.specs.Sums.{sum}
+use Rattle.algebra.specs.Field.{Field, dot, Distinct, Kernel, identity}
 use Rattle.algebra.proofs.Ring.{add-left-comm, zero-add, mul-zero}
 use Rattle.algebra.proofs.Poly.{sum-first}
 use Rattle.algebra.proofs.Cauchy.{cauchy}

@@ -3,7 +3,8 @@ use mathlib.Core.Path.{_≡_, refl, sym, _∙_, ap}
 use mathlib.Core.Logic.{_≢_}
 use Prim.Native.Nat.{ℕ, zero, suc, _<_}
 use native.Mathlib.Omega.{arith}
-use Rattle.algebra.specs.Field.{Field, sum, power, eval, Distinct, Zeros, Kernel, AnyRows}
+use Rattle.field.specs.Sums.{sum}
+use Rattle.algebra.specs.Field.{Field, power, eval, Distinct, Zeros, Kernel, AnyRows}
 use Rattle.algebra.proofs.Ring.{ring, add-assoc, add-left-comm, add-neg, add-zero, zero-add, mul-zero, one-mul, sub-not-zero, mul-cancel-zero, mul-assoc, mul-comm, sum-congr, sum-scale}
 
 -- the m coefficients of (p - p r) / (X - r), for a p of m + 1 coefficients

@@ -4,7 +4,8 @@ use mathlib.Core.Path.{_≡_, refl, sym, _∙_, ap}
 use Prim.Native.Nat.{ℕ, zero, suc, _<_}
 use native.Mathlib.Omega.{arith}
 use native.Mathlib.Decide.{ℕ-discrete}
-use Rattle.algebra.specs.Field.{Field, sum, Zeros}
+use Rattle.field.specs.Sums.{sum}
+use Rattle.algebra.specs.Field.{Field, Zeros}
 
 -- a sum by its terms: no law is needed
 pub sum-same : {F : Type 0} (o : F) (add : F → F → F) (n : ℕ) (f g : ℕ → F) → ((j : ℕ) → j < n → f j ≡ g j) → sum o add n f ≡ sum o add n g

@@ -4,7 +4,8 @@ use mathlib.Core.Logic.{_≢_, _↔_}
 use Prim.Native.Nat.{ℕ, zero, suc, _<_, _≤_}
 use native.Mathlib.Omega.{arith}
 use native.Mathlib.Decide.{ℕ-discrete, decLt}
-use Rattle.algebra.specs.Field.{Field, sum, dot, Kernel, Units, Solves, Swapped, Scaled, Added, Cleared, Columns}
+use Rattle.field.specs.Sums.{sum}
+use Rattle.algebra.specs.Field.{Field, dot, Kernel, Units, Solves, Swapped, Scaled, Added, Cleared, Columns}
 use Rattle.algebra.proofs.Ring.{add-comm, add-zero, mul-zero, zero-mul, mul-one, one-mul, mul-assoc, mul-add, add-mul, add-neg, add-cancel, neg-add, sub-zero, mul-cancel-zero, sum-congr, sum-zeros, sum-scale, sum-add, sum-one}
 
 -- the row i, and the others

@@ -3,7 +3,7 @@ use mathlib.Core.Path.{_≡_}
 use mathlib.Core.Logic.{_≢_}
 use mathlib.Core.Bool.{Bool, cond}
 use Prim.Native.Nat.{ℕ, zero, suc, _<_}
-pub use Rattle.field.specs.Sums.{sum}
+use Rattle.field.specs.Sums.{sum}
 
 -- a field on a type F with zero o and one e, its laws with no premises
 pub record Field {F : Type 0} (o e : F) (add mul : F → F → F) (neg inv : F → F) : Type 0 where

@@ -8,7 +8,8 @@ use Rattle.field.specs.Gf256.{gf256, overBits}
 use Rattle.field.proofs.Every.{at}
 use Rattle.field.proofs.Laws256.{laws256}
 use Rattle.algebra.specs.Codes.{Below, Regular, dot}
-use Rattle.algebra.specs.Field.{Distinct, power, sum}
+use Rattle.field.specs.Sums.{sum}
+use Rattle.algebra.specs.Field.{Distinct, power}
 use Rattle.algebra.specs.Flat.{cell}
 use Rattle.algebra.proofs.Cells.{codes-grid}
 use Rattle.algebra.proofs.OnCodes.{vandermonde-regular}
