@@ -1,2 +1,4 @@
 pub mod Bits
 pub mod Pieces
+pub mod Layouts
+pub mod Cutting

@@ -1,0 +1,69 @@
+// Laying a job out, and cutting its pieces.
+ghost use mathlib.Core.Path.{_≡_};
+ghost use mathlib.Core.Bool.{true};
+ghost use Prim.Native.Nat.{ℕ, _+_, _-_, _*_, _/_, _<_, _≤_, _^_};
+ghost use lib.ListN.{getD, length};
+ghost use Rattle.std.specs.Results.{Cases};
+ghost use Rattle.std.specs.declared.result.Result.the-variants.{Err, Ok};
+ghost use Rattle.field.specs.Laws.{Codes};
+ghost use Rattle.piece.specs.Cutting.{cutting, in-range, jobOf, laying, written};
+ghost use Rattle.piece.specs.Pieces.{entry, piece, place};
+use super::Layout;
+use crate::Settings;
+use crate::fault::CutFault;
+use field::Field;
+
+// The longest job.
+const LONGEST: usize = 4096;
+
+fn in_range(settings: Settings) -> bool
+    ensures { λ r. ⌜ r ≡ in-range settings ⌝ }
+{
+    settings.rows <= 1 && settings.m >= 1 && settings.m <= 16 && settings.m <= settings.n && settings.n <= 32
+}
+
+// The row of the place j: its symbol in each column, and 0 past the job's end.
+fn lay_row(row: &mut [u16], job: &[u8], m: usize, j: usize)
+    requires small { ⌜ length (now row) * m + j < 2 ^ 32 ⌝ }
+    requires place { ⌜ j < m ⌝ }
+    ensures { λ _. ⌜ ((k : ℕ) → k < length (now (row .entry)) → getD (now (row .exit)) k 0 ≡ place m (now (job .entry)) k j) ⌝ }
+{
+    for k in 0..row.len() {
+        let i = k * m + j;
+        row[k] = if i < job.len() { job[i] as u16 } else { 0 };
+    }
+}
+
+// All rows, one behind the other.
+fn lay_out(cells: &mut [u16], job: &[u8], m: usize, columns: usize)
+    requires few { ⌜ m ≤ 16 ⌝ }
+    requires short { ⌜ columns ≤ 4096 ⌝ }
+    requires room { ⌜ m * columns ≤ length (now cells) ⌝ }
+    ensures laid { λ _. ⌜ ((k j : ℕ) → k < columns → j < m → getD (now (cells .exit)) (j * columns + k) 0 ≡ place m (now (job .entry)) k j) ⌝ }
+    ensures rest { λ _. ⌜ ((i : ℕ) → m * columns ≤ i → getD (now (cells .exit)) i 0 ≡ getD (now (cells .entry)) i 0) ⌝ }
+{
+    for j in 0..m {
+        let from = j * columns;
+        lay_row(&mut cells[from..from + columns], job, m, j);
+    }
+}
+
+impl Layout {
+    // Lays a job out. Refuses settings out of range, then a job that is too long.
+    pub fn new(settings: Settings, job: &[u8]) -> Result<Layout, CutFault>
+        ensures { λ r. ⌜ Cases r (λ l. (laying settings (now (job .entry)) ≡ Ok tt) × (l .settings ≡ settings) × (jobOf l ≡ now (job .entry))) (λ f. laying settings (now (job .entry)) ≡ Err f) ⌝ }
+    {
+        if !in_range(settings) {
+            return Err(CutFault::Settings { rows: settings.rows, m: settings.m, n: settings.n });
+        }
+        let length = job.len();
+        if length > LONGEST {
+            return Err(CutFault::Job { length });
+        }
+        let m = settings.m as usize;
+        let columns = (length + (m - 1)) / m;
+        let mut cells = [0u16; 4111];
+        lay_out(&mut cells, job, m, columns);
+        Ok(Layout { settings, length, columns, cells })
+    }
+}
