@@ -10,6 +10,8 @@ use lib.Bits.{bitXor, xor-assoc, xor-comm, xor-self, xor-zero-r, xor-shr, xor-mo
 use Rattle.field.specs.Laws.{FieldLaws, Bounds}
 use Rattle.field.specs.Digits.{Digits}
 use Rattle.field.specs.Gf256.{overBits, xtime, times, inverse, gf256}
+use lib.ListN.{getD}
+use Rattle.field.specs.Search.{found}
 use Rattle.field.proofs.Every.{every, at}
 use Rattle.field.proofs.Found.{found-below, found-inverse, rule}
 use Rattle.field.proofs.Linear.{Linear, zero-at, agree, agree8, compose, xor-swap, scale-bit, double, over-left, over-right}
@@ -98,6 +100,11 @@ table = 0 ∷ 1 ∷ 141 ∷ 246 ∷ 203 ∷ 82 ∷ 123 ∷ 209 ∷ 232 ∷ 79 �
 pub all-rule : T (every (rule times 256 table) 256)
 unfolding overBits table
 all-rule = tt
+
+-- 0 has no inverse, and 0 in its place
+pub none : getD table 0 0 ≡ gf256 .inv 0
+unfolding overBits table found inverse
+none = refl
 
 pub laws256 : FieldLaws gf256
 unfolding inverse

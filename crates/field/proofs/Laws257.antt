@@ -9,6 +9,8 @@ use lib.Dec.{T, eqb, ltb, eqb→eq, ltb→lt, lit<, lit≤}
 use Rattle.field.specs.Laws.{FieldLaws, Bounds}
 use Rattle.field.specs.Digits.{Digits}
 use Rattle.field.specs.Mod257.{times, inverse, mod257}
+use lib.ListN.{getD}
+use Rattle.field.specs.Search.{found}
 use Rattle.field.proofs.Every.{every, at}
 use Rattle.field.proofs.Found.{found-below, found-inverse, rule}
 use Rattle.field.proofs.ModN.{mul-mod-l, mul-mod-r}
@@ -24,6 +26,11 @@ table = 0 ∷ 1 ∷ 129 ∷ 86 ∷ 193 ∷ 103 ∷ 43 ∷ 147 ∷ 225 ∷ 200 �
 pub all-rule : T (every (rule times 257 table) 257)
 unfolding table
 all-rule = tt
+
+-- 0 has no inverse, and 0 in its place
+pub none : getD table 0 0 ≡ mod257 .inv 0
+unfolding table found inverse
+none = refl
 
 pub laws257 : FieldLaws mod257
 unfolding inverse

@@ -46,10 +46,9 @@ pub trait Field {
         requires { ⌜ a < ops .order ⌝ }
         ensures { λ r. ⌜ r ≡ ops .neg a ⌝ };
 
-    // The inverse of a code that is not 0.
+    // The inverse; of 0, which has none, some code.
     fn inv(a: u16) -> u16
-        requires below { ⌜ a < ops .order ⌝ }
-        requires invertible { ⌜ (a ≡ 0 → ⊥) ⌝ }
+        requires { ⌜ a < ops .order ⌝ }
         ensures { λ r. ⌜ r ≡ ops .inv a ⌝ };
 
     // Adds a row to a row, place by place.

@@ -25,10 +25,7 @@ index-rows-from g c =
 
 pub inv-k-requires : need.inv-k-requires
 unfolding cell
-inv-k-requires g c κs = record {
-  below = c .pre .grid .below (c .args .c) (c .pre .within) (c .args .c) (omega arith);
-  invertible = c .pre .pivot;
-}
+inv-k-requires g c κs = c .pre .grid .below (c .args .c) (c .pre .within) (c .args .c) (omega arith)
 
 pub offset-rows-from-2 : need.offset-rows-from-2
 offset-rows-from-2 g c =
