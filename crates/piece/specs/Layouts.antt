@@ -12,6 +12,6 @@ Bytes cells = (i : ℕ) → i < length cells → getD cells i 0 < 256
 abbrev pub cellAt : ℕ → List ℕ → ℕ → ℕ → ℕ
 cellAt columns cells k j = getD cells (j * columns + k) 0
 
--- zeros fill up the last column of a job of this length
+-- zeros fill up the last column of a job of this length: symbol i stands at the place i % m of the column i / m
 abbrev pub Filled : ℕ → ℕ → ℕ → List ℕ → Type 0
-Filled m len columns cells = (k j : ℕ) → k < columns → j < m → len ≤ k * m + j → cellAt columns cells k j ≡ 0
+Filled m len columns cells = (i : ℕ) → len ≤ i → i < columns * m → cellAt columns cells (i / m) (i % m) ≡ 0
