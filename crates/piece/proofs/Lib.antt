@@ -1,3 +1,4 @@
 pub mod Listing
 pub mod Ranges
 pub mod Laying
+pub mod Values

@@ -7,9 +7,10 @@ ghost use Rattle.std.specs.Results.{Cases};
 ghost use Rattle.std.specs.declared.result.Result.the-variants.{Err, Ok};
 ghost use Rattle.field.specs.Laws.{Codes};
 ghost use Rattle.piece.specs.Cutting.{cutting, in-range, jobOf, laying, written};
-ghost use Rattle.piece.specs.Pieces.{entry, piece, place};
+ghost use Rattle.piece.specs.Pieces.{entry, piece, place, value};
 use super::Layout;
 use crate::Settings;
+use crate::entries::entries;
 use crate::fault::CutFault;
 use field::Field;
 
@@ -65,5 +66,19 @@ impl Layout {
         let mut cells = [0u16; 4111];
         lay_out(&mut cells, job, m, columns);
         Ok(Layout { settings, length, columns, cells })
+    }
+
+    // The values of the piece of this number, one for each column; factors is scratch for the entries of its row.
+    fn values<F: Field>(&self, values: &mut [u16], number: u8, factors: &mut [u16])
+        requires least { ⌜ 1 ≤ number ⌝ }
+        requires most { ⌜ number ≤ now self .settings .n ⌝ }
+        requires columns { ⌜ length (now values) ≡ now self .columns ⌝ }
+        requires places { ⌜ length (now factors) ≡ now self .settings .m ⌝ }
+        ensures codes { λ _. ⌜ Codes (ops .order) (now (values .exit)) ⌝ }
+        ensures value { λ _. ⌜ ((k : ℕ) → k < length (now (values .exit)) → getD (now (values .exit)) k 0 ≡ value ops (now (self .entry) .settings) (jobOf (now (self .entry))) number k) ⌝ }
+    {
+        let all = self.settings.m as usize * self.columns;
+        entries::<F>(factors, self.settings, number);
+        F::combine(values, &self.cells[0..all], factors);
     }
 }
