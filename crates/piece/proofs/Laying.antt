@@ -9,13 +9,14 @@ use native.Mathlib.Decide.{decLt, ℕ-discrete}
 use borrow.Rule.Slice.PartMut.{putMid}
 use lib.Arith.{digits-lt}
 use lib.Dec.{lit<}
-use lib.ListN.{getD, length}
+use lib.ListN.{getD, length, replicate, take, length-replicate}
+use lib.Seq.{length-take-le}
 use Rattle.field.proofs.Parts.{put-before, put-inside, put-behind}
 use Rattle.field.proofs.Rows.{row-fits, row-within, place-within}
 use Rattle.std.proofs.shelf.Lists.{getD-past}
 use Rattle.piece.specs.Layouts.{Filled}
 use Rattle.piece.specs.Pieces.{place, listed}
-use Rattle.piece.proofs.Listing.{listed-is}
+use Rattle.piece.proofs.Octets.{listed-is}
 use Rattle.piece.proofs.Ranges.{columns-reach}
 
 -- the rows of the places before j are laid out, and what stands behind them is as it was
@@ -62,7 +63,7 @@ module _ (m len : ℕ) (job start cells : List ℕ) (some : 1 ≤ m) (l : length
   filled i a h = symbol i h ∙ getD-past job i 0 (omega arith)
 
   pub job-back : listed len (λ i. getD cells (i % m * ((len + (m - 1)) / m) + i / m) 0) ≡ job
-  job-back = listed-is len _ job l (λ i h. sym (symbol i (let r = columns-reach m len some in omega arith)))
+  job-back = sym (listed-is job len _ l (λ i h. sym (symbol i (let r = columns-reach m len some in omega arith))))
 
   pub bytes : ((i : ℕ) → getD job i 0 < 256) → ((i : ℕ) → getD start i 0 ≡ 0) → (i : ℕ) → getD cells i 0 < 256
   bytes b z i = elim (decLt i (m * ((len + (m - 1)) / m))) [
@@ -73,3 +74,19 @@ module _ (m len : ℕ) (job start cells : List ℕ) (some : 1 ≤ m) (l : length
         (b (i % w * m + i / w))
     | no h ↦ subst (λ (n : ℕ). n < 256) (sym (rest i (omega arith) ∙ z i)) (lit< tt)
   ]
+
+abbrev pub zeros : ℕ → List ℕ
+zeros n = replicate n 0
+
+-- zeros, also past their end
+pub zeros-at : (n i : ℕ) → getD (zeros n) i 0 ≡ 0
+zeros-at zero i = refl
+zeros-at (suc n) zero = refl
+zeros-at (suc n) (suc i) = zeros-at n i
+
+-- the front of a scratch array
+pub front-length : (n k : ℕ) → k ≤ n → length (take (k - 0) (zeros n)) ≡ k
+front-length n k h =
+    let l = length-replicate {A = ℕ} n 0 in
+    let fits : k - 0 ≤ length (zeros n) = omega arith in
+    length-take-le (k - 0) (zeros n) fits ∙ omega arith

@@ -1,4 +1,9 @@
-pub mod Listing
+pub mod Octets
+pub mod Packing
+pub mod Unpacking
+pub mod Faults
 pub mod Ranges
 pub mod Laying
 pub mod Values
+pub mod Headers
+pub mod Cuts

@@ -16,7 +16,7 @@ use Rattle.piece.specs.declared.Settings.{Settings}
 use Rattle.piece.specs.declared.layout.Layout.{Layout}
 use Rattle.piece.specs.Cutting.{jobOf}
 use Rattle.piece.specs.Pieces.{Lawful, entry, place, value, listed}
-use Rattle.piece.proofs.Listing.{listed-length, listed-at}
+use Rattle.piece.proofs.Octets.{length-listed, getD-listed}
 
 -- what a layout's own facts say of its settings
 pub layout-lawful : (L : Layout) → Lawful (L .settings)
@@ -24,7 +24,7 @@ layout-lawful L = record { kind = L .kind; some = L .some; needed = L .needed; e
 
 pub job-length : (L : Layout) → length (jobOf L) ≡ L .length
 unfolding jobOf
-job-length L = listed-length (L .length) _
+job-length L = length-listed (L .length) _
 
 -- the symbol at the place j of the column k stands in the row j
 pub place-cell : (L : Layout) (k j : ℕ) → k < L .columns → j < L .settings .m → place (L .settings .m) (jobOf L) k j ≡ getD (L .cells) (j * L .columns + k) 0
@@ -37,9 +37,9 @@ place-cell L k j hk hj =
     let there : getD (L .cells) (i % m * L .columns + i / m) 0 ≡ getD (L .cells) (j * L .columns + k) 0
     = ap₂ (λ (a b : ℕ). getD (L .cells) (a * L .columns + b) 0) row column in
     elim (decLt i (L .length)) [
-      | yes h ↦ listed-at (L .length) _ i h ∙ there
+      | yes h ↦ getD-listed (L .length) _ i h ∙ there
       | no h ↦
-          let s = listed-length (L .length) (λ n. getD (L .cells) (n % m * L .columns + n / m) 0) in
+          let s = length-listed (L .length) (λ n. getD (L .cells) (n % m * L .columns + n / m) 0) in
           getD-past (listed (L .length) (λ n. getD (L .cells) (n % m * L .columns + n / m) 0)) i 0 (omega arith)
           ∙ sym (L .filled i (omega arith) (digits-lt hk hj)) ∙ there
     ]

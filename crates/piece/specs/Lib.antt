@@ -1,4 +1,5 @@
 pub mod Bits
+pub mod Stream
 pub mod Pieces
 pub mod Layouts
 pub mod Cutting

@@ -49,12 +49,12 @@ abbrev pub body : Ops → Settings → List ℕ → ℕ → List ℕ
 body K S job i = listed (columns (S .m) job) (value K S job i)
 
 -- the header, 80 bits: field code, rows kind, m - 1, n - 1, piece number - 1, job length, job number, stamp
-abbrev pub header : Ops → Settings → ℕ → ℕ → ℕ → ℕ → List ℕ
-header K S i len job-number stamp =
-    bitsOf 2 (K .code) ++ (bitsOf 2 (S .rows) ++ (bitsOf 4 (S .m - 1) ++ (bitsOf 5 (S .n - 1)
+unfoldable pub header : ℕ → Settings → ℕ → ℕ → ℕ → ℕ → List ℕ
+header code S i len job-number stamp =
+    bitsOf 2 code ++ (bitsOf 2 (S .rows) ++ (bitsOf 4 (S .m - 1) ++ (bitsOf 5 (S .n - 1)
     ++ (bitsOf 5 (i - 1) ++ (bitsOf 14 len ++ (bitsOf 16 job-number ++ bitsOf 32 stamp))))))
 
 -- the bytes of the piece numbered i: the header, then the values of w bits each, then bits 0 up to a whole byte
 unfoldable pub piece : Ops → Settings → ℕ → ℕ → ℕ → List ℕ → List ℕ
 piece K S i job-number stamp job =
-    octets (header K S i (length job) job-number stamp ++ joined (bitsOf (K .width)) (body K S job i))
+    octets (header (K .code) S i (length job) job-number stamp ++ joined (bitsOf (K .width)) (body K S job i))

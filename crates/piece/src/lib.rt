@@ -1,6 +1,7 @@
 // Pieces of a job: settings, cutting and reading.
 pub mod bits;
 mod entries;
+mod header;
 pub mod fault;
 pub mod layout;
 

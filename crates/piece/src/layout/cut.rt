@@ -2,16 +2,19 @@
 ghost use mathlib.Core.Path.{_≡_};
 ghost use mathlib.Core.Bool.{true};
 ghost use Prim.Native.Nat.{ℕ, _+_, _-_, _*_, _/_, _<_, _≤_, _^_};
-ghost use lib.ListN.{getD, length};
+ghost use lib.ListN.{drop, getD, length};
+ghost use mathlib.Core.List.{_++_};
 ghost use Rattle.std.specs.Results.{Cases};
 ghost use Rattle.std.specs.declared.result.Result.the-variants.{Err, Ok};
 ghost use Rattle.field.specs.Laws.{Codes};
-ghost use Rattle.piece.specs.Cutting.{cutting, in-range, jobOf, laying, written};
+ghost use Rattle.piece.specs.Cutting.{cutting, in-range, jobOf, laying, size, written};
 ghost use Rattle.piece.specs.Pieces.{entry, piece, place, value};
 use super::Layout;
 use crate::Settings;
+use crate::bits::pack;
 use crate::entries::entries;
 use crate::fault::CutFault;
+use crate::header::write_header;
 use field::Field;
 
 // The longest job.
@@ -49,6 +52,14 @@ fn lay_out(cells: &mut [u16], job: &[u8], m: usize, columns: usize)
     }
 }
 
+// The bytes of a piece with so many columns.
+fn size<F: Field>(columns: usize) -> usize
+    requires { ⌜ columns ≤ 4096 ⌝ }
+    ensures { λ r. ⌜ r ≡ size ops columns ⌝ }
+{
+    10 + (columns * F::width() as usize + 7) / 8
+}
+
 impl Layout {
     // Lays a job out. Refuses settings out of range, then a job that is too long.
     pub fn new(settings: Settings, job: &[u8]) -> Result<Layout, CutFault>
@@ -80,5 +91,42 @@ impl Layout {
         let all = self.settings.m as usize * self.columns;
         entries::<F>(factors, self.settings, number);
         F::combine(values, &self.cells[0..all], factors);
+    }
+
+    // Writes the piece of this number to the front of a buffer and answers its length; the bytes behind it are left
+    // alone. Refuses a number outside 1 to n, then a buffer shorter than the piece, and leaves the buffer as it was.
+    pub fn cut<F: Field>(&self, number: u8, job_number: u16, stamp: u32, out: &mut [u8]) -> Result<usize, CutFault>
+        ensures answer { λ r. ⌜ r ≡ cutting ops (now (self .entry) .settings) (jobOf (now (self .entry))) number (length (now (out .entry))) ⌝ }
+        ensures bytes { λ r. ⌜ now (out .exit) ≡ written r (piece ops (now (self .entry) .settings) number «job_number» stamp (jobOf (now (self .entry)))) (now (out .entry)) ⌝ }
+    {
+        let n = self.settings.n;
+        if number < 1 || number > n {
+            return Err(CutFault::Number { number, n });
+        }
+        let needs = size::<F>(self.columns);
+        let has = out.len();
+        if has < needs {
+            return Err(CutFault::Room { has, needs });
+        }
+        let m = self.settings.m as usize;
+        let mut values = [0u16; LONGEST];
+        let mut factors = [0u16; 16];
+        self.write::<F>(number, job_number, stamp, out, &mut values[0..self.columns], &mut factors[0..m]);
+        Ok(needs)
+    }
+
+    // Writes the piece of this number to the front of a buffer that holds it; values and factors are scratch for the
+    // piece's values and the entries of its row.
+    fn write<F: Field>(&self, number: u8, job_number: u16, stamp: u32, out: &mut [u8], values: &mut [u16], factors: &mut [u16])
+        requires least { ⌜ 1 ≤ number ⌝ }
+        requires most { ⌜ number ≤ now self .settings .n ⌝ }
+        requires room { ⌜ size ops (now self .columns) ≤ length (now out) ⌝ }
+        requires columns { ⌜ length (now values) ≡ now self .columns ⌝ }
+        requires places { ⌜ length (now factors) ≡ now self .settings .m ⌝ }
+        ensures { λ _. ⌜ now (out .exit) ≡ piece ops (now (self .entry) .settings) number «job_number» stamp (jobOf (now (self .entry))) ++ drop (size ops (now (self .entry) .columns)) (now (out .entry)) ⌝ }
+    {
+        self.values::<F>(values, number, factors);
+        write_header(out, F::code(), self.settings, number, self.length as u16, job_number, stamp);
+        pack(values, F::width(), &mut out[10..]);
     }
 }

@@ -5,10 +5,9 @@ use Prim.Native.Nat.{ℕ, _+_, _-_, _*_, _/_, _≤_, _<_}
 use native.Mathlib.Omega.{arith}
 use lib.ListN.{length, getD, replicate}
 use borrow.Author.Tests.{le-leb}
-use Rattle.piece.proofs.Listing.{zeros, zeros-at}
 use Rattle.piece.specs.Cutting.{in-range, jobOf}
 use Rattle.piece.proofs.Ranges.{lawful, columns-fit, columns-few}
-use Rattle.piece.proofs.Laying.{filled, job-back, bytes}
+use Rattle.piece.proofs.Laying.{filled, job-back, bytes, zeros, zeros-at}
 use Rattle.piece.proofs.layout.Layout.new.Needs as need
 
 pub lay-out-requires : need.lay-out-requires
