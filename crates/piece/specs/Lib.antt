@@ -3,3 +3,4 @@ pub mod Stream
 pub mod Pieces
 pub mod Layouts
 pub mod Cutting
+pub mod Columns

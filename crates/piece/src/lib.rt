@@ -1,9 +1,10 @@
 // Pieces of a job: settings, cutting and reading.
 pub mod bits;
-mod entries;
-mod header;
 pub mod fault;
 pub mod layout;
+
+mod entries;
+mod header;
 
 // How a job is cut: the kind of rows (0 Vandermonde, 1 Cauchy), how many pieces bring it back, and how many there are.
 // Any numbers may stand here; the calls refuse what is out of range.

@@ -130,3 +130,12 @@ impl Layout {
         pack(values, F::width(), &mut out[10..]);
     }
 }
+
+// Cuts one piece of a job: lays the job out, and writes the piece to the front of a buffer.
+pub fn cut<F: Field>(settings: Settings, number: u8, job_number: u16, stamp: u32, job: &[u8], out: &mut [u8]) -> Result<usize, CutFault>
+    ensures answer { λ r. ⌜ r ≡ cutting ops settings (now (job .entry)) number (length (now (out .entry))) ⌝ }
+    ensures bytes { λ r. ⌜ now (out .exit) ≡ written r (piece ops settings number «job_number» stamp (now (job .entry))) (now (out .entry)) ⌝ }
+{
+    let layout = Layout::new(settings, job)?;
+    layout.cut::<F>(number, job_number, stamp, out)
+}
