@@ -4,3 +4,4 @@ pub mod Pieces
 pub mod Layouts
 pub mod Cutting
 pub mod Columns
+pub mod Worked

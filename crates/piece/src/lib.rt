@@ -2,6 +2,7 @@
 pub mod bits;
 pub mod fault;
 pub mod layout;
+pub mod worked;
 
 mod entries;
 mod header;
