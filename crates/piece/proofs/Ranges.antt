@@ -11,6 +11,9 @@ use Rattle.piece.specs.declared.Settings.{Settings}
 use Rattle.piece.specs.Cutting.{in-range}
 use Rattle.piece.specs.Pieces.{Lawful}
 
+pub false-true : false ≡ true → ⊥
+false-true e = let z : _≡_ {A = ℕ} 0 1 = cc in omega arith
+
 -- a test and another
 first-of : (a b : Bool) → cond a b false ≡ true → a ≡ true
 first-of true b e = refl
@@ -19,9 +22,6 @@ first-of false b e = e
 second-of : (a b : Bool) → cond a b false ≡ true → b ≡ true
 second-of true b e = e
 second-of false b e = absurd (false-true e)
-  where
-    false-true : false ≡ true → ⊥
-    false-true e = let z : _≡_ {A = ℕ} 0 1 = cc in omega arith
 
 pub lawful : (S : Settings) → in-range S ≡ true → Lawful S
 lawful S e =

@@ -5,3 +5,4 @@ pub mod Layouts
 pub mod Cutting
 pub mod Columns
 pub mod Worked
+pub mod Reading

@@ -28,6 +28,11 @@ pub struct Layout {
 impl Drop for Layout {
     fn drop(mut self) {
         self.cells.fill(0);
-        let Layout { settings: _, length: _, columns: _, cells: _ } = self;
+        let Layout {
+            settings: _,
+            length: _,
+            columns: _,
+            cells: _,
+        } = self;
     }
 }

@@ -14,7 +14,7 @@ use crate::Settings;
 use crate::bits::pack;
 use crate::entries::entries;
 use crate::fault::CutFault;
-use crate::header::write_header;
+use crate::head::write_header;
 use field::Field;
 
 // The longest job.
@@ -23,7 +23,11 @@ const LONGEST: usize = 4096;
 fn in_range(settings: Settings) -> bool
     ensures { λ r. ⌜ r ≡ in-range settings ⌝ }
 {
-    settings.rows <= 1 && settings.m >= 1 && settings.m <= 16 && settings.m <= settings.n && settings.n <= 32
+    settings.rows <= 1
+        && settings.m >= 1
+        && settings.m <= 16
+        && settings.m <= settings.n
+        && settings.n <= 32
 }
 
 // The row of the place j: its symbol in each column, and 0 past the job's end.
@@ -66,7 +70,11 @@ impl Layout {
         ensures { λ r. ⌜ Cases r (λ l. (laying settings (now (job .entry)) ≡ Ok tt) × (l .settings ≡ settings) × (jobOf l ≡ now (job .entry))) (λ f. laying settings (now (job .entry)) ≡ Err f) ⌝ }
     {
         if !in_range(settings) {
-            return Err(CutFault::Settings { rows: settings.rows, m: settings.m, n: settings.n });
+            return Err(CutFault::Settings {
+                rows: settings.rows,
+                m: settings.m,
+                n: settings.n,
+            });
         }
         let length = job.len();
         if length > LONGEST {
@@ -76,7 +84,12 @@ impl Layout {
         let columns = (length + (m - 1)) / m;
         let mut cells = [0u16; 4111];
         lay_out(&mut cells, job, m, columns);
-        Ok(Layout { settings, length, columns, cells })
+        Ok(Layout {
+            settings,
+            length,
+            columns,
+            cells,
+        })
     }
 
     // The values of the piece of this number, one for each column; factors is scratch for the entries of its row.
@@ -95,7 +108,13 @@ impl Layout {
 
     // Writes the piece of this number to the front of a buffer and answers its length; the bytes behind it are left
     // alone. Refuses a number outside 1 to n, then a buffer shorter than the piece, and leaves the buffer as it was.
-    pub fn cut<F: Field>(&self, number: u8, job_number: u16, stamp: u32, out: &mut [u8]) -> Result<usize, CutFault>
+    pub fn cut<F: Field>(
+        &self,
+        number: u8,
+        job_number: u16,
+        stamp: u32,
+        out: &mut [u8],
+    ) -> Result<usize, CutFault>
         ensures answer { λ r. ⌜ r ≡ cutting ops (now (self .entry) .settings) (jobOf (now (self .entry))) number (length (now (out .entry))) ⌝ }
         ensures bytes { λ r. ⌜ now (out .exit) ≡ written r (piece ops (now (self .entry) .settings) number «job_number» stamp (jobOf (now (self .entry)))) (now (out .entry)) ⌝ }
     {
@@ -111,13 +130,28 @@ impl Layout {
         let m = self.settings.m as usize;
         let mut values = [0u16; LONGEST];
         let mut factors = [0u16; 16];
-        self.write::<F>(number, job_number, stamp, out, &mut values[0..self.columns], &mut factors[0..m]);
+        self.write::<F>(
+            number,
+            job_number,
+            stamp,
+            out,
+            &mut values[0..self.columns],
+            &mut factors[0..m],
+        );
         Ok(needs)
     }
 
     // Writes the piece of this number to the front of a buffer that holds it; values and factors are scratch for the
     // piece's values and the entries of its row.
-    fn write<F: Field>(&self, number: u8, job_number: u16, stamp: u32, out: &mut [u8], values: &mut [u16], factors: &mut [u16])
+    fn write<F: Field>(
+        &self,
+        number: u8,
+        job_number: u16,
+        stamp: u32,
+        out: &mut [u8],
+        values: &mut [u16],
+        factors: &mut [u16],
+    )
         requires least { ⌜ 1 ≤ number ⌝ }
         requires most { ⌜ number ≤ now self .settings .n ⌝ }
         requires room { ⌜ size ops (now self .columns) ≤ length (now out) ⌝ }
@@ -126,13 +160,28 @@ impl Layout {
         ensures { λ _. ⌜ now (out .exit) ≡ piece ops (now (self .entry) .settings) number «job_number» stamp (jobOf (now (self .entry))) ++ drop (size ops (now (self .entry) .columns)) (now (out .entry)) ⌝ }
     {
         self.values::<F>(values, number, factors);
-        write_header(out, F::code(), self.settings, number, self.length as u16, job_number, stamp);
+        write_header(
+            out,
+            F::code(),
+            self.settings,
+            number,
+            self.length as u16,
+            job_number,
+            stamp,
+        );
         pack(values, F::width(), &mut out[10..]);
     }
 }
 
 // Cuts one piece of a job: lays the job out, and writes the piece to the front of a buffer.
-pub fn cut<F: Field>(settings: Settings, number: u8, job_number: u16, stamp: u32, job: &[u8], out: &mut [u8]) -> Result<usize, CutFault>
+pub fn cut<F: Field>(
+    settings: Settings,
+    number: u8,
+    job_number: u16,
+    stamp: u32,
+    job: &[u8],
+    out: &mut [u8],
+) -> Result<usize, CutFault>
     ensures answer { λ r. ⌜ r ≡ cutting ops settings (now (job .entry)) number (length (now (out .entry))) ⌝ }
     ensures bytes { λ r. ⌜ now (out .exit) ≡ written r (piece ops settings number «job_number» stamp (now (job .entry))) (now (out .entry)) ⌝ }
 {

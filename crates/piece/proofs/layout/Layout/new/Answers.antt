@@ -24,17 +24,39 @@ pub ghost-result : need.ghost-result
 ghost-result c =
     let S = c .args .settings in
     let L = lawful S (sym (c .if-not-in-range .ensures tt)) in
-    let n : ℕ = length (c .args .job .now) in
-    (L .kind, (L .some, (L .needed, (L .enough, (L .made, (c .if-length-gt-LONGEST .left, (refl, (
-      (λ i h. bytes (S .m) n (c .args .job .now) (zeros 4111) (c .lay-out .last .cells) (L .some) refl (c .lay-out .ensures .laid) (c .lay-out .ensures .rest) (λ k. omega (arith, c .typed .job k)) (zeros-at 4111) i),
-      (filled (S .m) n (c .args .job .now) (zeros 4111) (c .lay-out .last .cells) (L .some) refl (c .lay-out .ensures .laid) (c .lay-out .ensures .rest), tt),
-    ))))))))
+    let n : ℕ = length (c .args .job .now) in (
+      L .kind,
+      (
+        L .some,
+        (
+          L .needed,
+          (
+            L .enough,
+            (
+              L .made,
+              (
+                c .if-length-gt-LONGEST .left,
+                (
+                  refl,
+                  (
+                    (λ i h. bytes (S .m) n (c .args .job .now) (zeros 4111) (c .lay-out .last .cells) (L .some) refl (c .lay-out .ensures .laid) (c .lay-out .ensures .rest) (λ k. omega (arith, c .typed .job k)) (zeros-at 4111) i),
+                    (filled (S .m) n (c .args .job .now) (zeros 4111) (c .lay-out .last .cells) (L .some) refl (c .lay-out .ensures .laid) (c .lay-out .ensures .rest), tt),
+                  ),
+                ),
+              ),
+            ),
+          ),
+        ),
+      ),
+    )
 
 pub returns : need.returns
 unfolding jobOf
 returns c =
     let S = c .args .settings in
     let t : in-range S ≡ true = sym (c .if-not-in-range .ensures tt) in
-    let L = lawful S t in
-    (rw (t, le-leb (length (c .args .job .now)) 4096 (c .if-length-gt-LONGEST .left)) refl, refl,
-      job-back (S .m) (length (c .args .job .now)) (c .args .job .now) (zeros 4111) (c .lay-out .last .cells) (L .some) refl (c .lay-out .ensures .laid) (c .lay-out .ensures .rest))
+    let L = lawful S t in (
+      rw (t, le-leb (length (c .args .job .now)) 4096 (c .if-length-gt-LONGEST .left)) refl,
+      refl,
+      job-back (S .m) (length (c .args .job .now)) (c .args .job .now) (zeros 4111) (c .lay-out .last .cells) (L .some) refl (c .lay-out .ensures .laid) (c .lay-out .ensures .rest),
+    )

@@ -31,7 +31,15 @@ fn head(code: u8, settings: Settings, number: u8, len: u16, job_number: u16, sta
 }
 
 // Writes the header to the front of a buffer.
-pub fn write_header(out: &mut [u8], code: u8, settings: Settings, number: u8, len: u16, job_number: u16, stamp: u32)
+pub fn write_header(
+    out: &mut [u8],
+    code: u8,
+    settings: Settings,
+    number: u8,
+    len: u16,
+    job_number: u16,
+    stamp: u32,
+)
     requires room { ⌜ 10 ≤ length (now out) ⌝ }
     requires code { ⌜ code < 4 ⌝ }
     requires lawful { ⌜ Lawful settings ⌝ }

@@ -1,7 +1,7 @@
 use mathlib.Core.Path.{sym}
 use native.Mathlib.Omega.{arith}
 use Rattle.piece.proofs.Headers.{header-bytes}
-use Rattle.piece.proofs.header.head.Needs as need
+use Rattle.piece.proofs.head.head.Needs as need
 
 pub returns : need.returns
 returns c =

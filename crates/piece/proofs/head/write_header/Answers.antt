@@ -4,7 +4,7 @@ use native.Mathlib.Omega.{arith}
 use lib.ListN.{length, take}
 use lib.Seq.{length-take-le}
 use Rattle.std.proofs.shelf.Parts.{take-putMid, drop-putMid}
-use Rattle.piece.proofs.header.write_header.Needs as need
+use Rattle.piece.proofs.head.write_header.Needs as need
 
 pub returns : need.returns
 returns c =
