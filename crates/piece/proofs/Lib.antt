@@ -7,3 +7,5 @@ pub mod Laying
 pub mod Values
 pub mod Headers
 pub mod Cuts
+pub mod Apart
+pub mod Open

@@ -1,5 +1,6 @@
 // Pieces of a job: settings, cutting and reading.
 pub mod bits;
+pub mod columns;
 pub mod fault;
 pub mod layout;
 
