@@ -14,7 +14,7 @@ use Rattle.field.proofs.Bounds.{rows-fit, byte-is-a-code}
 use Rattle.algebra.specs.Field as abstract
 use Rattle.algebra.specs.Field.{Field}
 use Rattle.algebra.specs.Codes.{Below, Points, Few-vanish, dot, power}
-use Rattle.algebra.proofs.Ring.{sum-same, sum-add, add-assoc, add-zero, zero-add, add-cancel, add-comm, neg-add, mul-add, sub-zero}
+use Rattle.algebra.proofs.Ring.{sum-same, sum-add, add-assoc, add-zero, add-cancel, add-comm, neg-add, mul-add, sub-zero}
 use Rattle.algebra.proofs.Codes.{up, field, up-add, up-neg, up-dot, up-zero, up-same, Zero, Add, Mul, Neg, dot-below, power-below}
 use Rattle.algebra.proofs.OnCodes.{vandermonde-few, cauchy-few}
 use Rattle.piece.specs.declared.Settings.{Settings}

@@ -9,3 +9,4 @@ pub mod Headers
 pub mod Cuts
 pub mod Apart
 pub mod Open
+pub mod Candidates
