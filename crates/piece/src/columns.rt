@@ -14,8 +14,9 @@ use crate::layout::cut::in_range;
 use algebra::eliminate;
 use field::Field;
 
-// Two jobs differ in all but at most m - 1 of the symbols of a column, and m - 1 symbols of a column leave every element
-// at every place possible in exactly one way: for every field. Answers how many theorems these are.
+// Where two jobs of equal length differ in a column, at most m - 1 of their n symbols of it are equal; and any m - 1
+// symbols of a column cut with Cauchy rows leave every element at every place possible, in exactly one way. Both hold
+// for every field. Answers how many they are.
 pub fn columns_stand<F: Field>() -> u8
     ensures distance { λ _. ⌜ Distance ops ⌝ }
     ensures hiding { λ _. ⌜ Hiding ops ⌝ }
@@ -71,7 +72,14 @@ fn are_codes<F: Field>(symbols: &[u16]) -> bool
 }
 
 // Whether a column may be asked for with these, into so much room.
-fn asked<F: Field>(settings: Settings, numbers: &[u8], symbols: &[u16], place: usize, value: u16, room: usize) -> bool
+fn asked<F: Field>(
+    settings: Settings,
+    numbers: &[u8],
+    symbols: &[u16],
+    place: usize,
+    value: u16,
+    room: usize,
+) -> bool
     ensures yes { λ r. ⌜ (r ≡ true → InRange ops settings (now (numbers .entry)) (now (symbols .entry)) place value room) ⌝ }
     ensures no { λ r. ⌜ (r ≡ false → InRange ops settings (now (numbers .entry)) (now (symbols .entry)) place value room → ⊥) ⌝ }
 {
@@ -79,7 +87,12 @@ fn asked<F: Field>(settings: Settings, numbers: &[u8], symbols: &[u16], place: u
         return false;
     }
     let m = settings.m as usize;
-    if settings.rows != 1 || numbers.len() != m - 1 || symbols.len() != m - 1 || place >= m || room != m {
+    if settings.rows != 1
+        || numbers.len() != m - 1
+        || symbols.len() != m - 1
+        || place >= m
+        || room != m
+    {
         return false;
     }
     if value >= F::order() {
@@ -118,7 +131,14 @@ fn read_piece<F: Field>(row: &mut [u16], settings: Settings, number: u8, symbol:
 }
 
 // The system that the column solves, row after row.
-fn lay_system<F: Field>(grid: &mut [u16], settings: Settings, numbers: &[u8], symbols: &[u16], place: usize, value: u16)
+fn lay_system<F: Field>(
+    grid: &mut [u16],
+    settings: Settings,
+    numbers: &[u8],
+    symbols: &[u16],
+    place: usize,
+    value: u16,
+)
     requires asked { ⌜ InRange ops settings (now numbers) (now symbols) place value (settings .m) ⌝ }
     requires size { ⌜ length (now grid) ≡ settings .m * (settings .m + 1) ⌝ }
     ensures { λ _. ⌜ System ops settings (now (numbers .entry)) (now (symbols .entry)) place value (now (grid .exit)) ⌝ }
@@ -144,7 +164,17 @@ fn copy_last(column: &mut [u16], rows: &[u16])
 }
 
 // Writes the column that fits; grid, factors and row are scratch.
-fn find<F: Field>(settings: Settings, numbers: &[u8], symbols: &[u16], place: usize, value: u16, column: &mut [u16], grid: &mut [u16], factors: &mut [u16], row: &mut [u16])
+fn find<F: Field>(
+    settings: Settings,
+    numbers: &[u8],
+    symbols: &[u16],
+    place: usize,
+    value: u16,
+    column: &mut [u16],
+    grid: &mut [u16],
+    factors: &mut [u16],
+    row: &mut [u16],
+)
     requires asked { ⌜ InRange ops settings (now numbers) (now symbols) place value (length (now column)) ⌝ }
     requires size { ⌜ length (now grid) ≡ settings .m * (settings .m + 1) ⌝ }
     requires factors { ⌜ length (now factors) ≡ settings .m ⌝ }
@@ -156,10 +186,17 @@ fn find<F: Field>(settings: Settings, numbers: &[u8], symbols: &[u16], place: us
     copy_last(column, grid);
 }
 
-// Writes the one column that has the value at the place and gives the symbols of the pieces of these numbers. Answers
-// whether the arguments are in range; where they are not, the column is left as it was. There is room for exactly m
-// elements.
-pub fn candidate<F: Field>(settings: Settings, numbers: &[u8], symbols: &[u16], place: usize, value: u16, column: &mut [u16]) -> bool
+// Writes the one column that has the value at the place and gives the symbols of the m - 1 pieces of these numbers, cut
+// with Cauchy rows. It must have exactly m entries. Answers whether the arguments are in range; where they are not, the
+// column is left as it was.
+pub fn candidate<F: Field>(
+    settings: Settings,
+    numbers: &[u8],
+    symbols: &[u16],
+    place: usize,
+    value: u16,
+    column: &mut [u16],
+) -> bool
     ensures asked { λ r. ⌜ (r ≡ true → InRange ops settings (now (numbers .entry)) (now (symbols .entry)) place value (length (now (column .entry)))) ⌝ }
     ensures refused { λ r. ⌜ (r ≡ false → InRange ops settings (now (numbers .entry)) (now (symbols .entry)) place value (length (now (column .entry))) → ⊥) ⌝ }
     ensures fits { λ r. ⌜ (r ≡ true → Candidate ops settings (now (numbers .entry)) (now (symbols .entry)) place value (now (column .exit))) ⌝ }
@@ -172,6 +209,16 @@ pub fn candidate<F: Field>(settings: Settings, numbers: &[u8], symbols: &[u16], 
     let mut grid = [0u16; 272];
     let mut factors = [0u16; 16];
     let mut row = [0u16; 17];
-    find::<F>(settings, numbers, symbols, place, value, column, &mut grid[0..m * (m + 1)], &mut factors[0..m], &mut row[0..m + 1]);
+    find::<F>(
+        settings,
+        numbers,
+        symbols,
+        place,
+        value,
+        column,
+        &mut grid[0..m * (m + 1)],
+        &mut factors[0..m],
+        &mut row[0..m + 1],
+    );
     true
 }

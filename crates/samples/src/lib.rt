@@ -77,13 +77,23 @@ mod tests {
     // Whatever stands at the first place, a column gives the symbol of the piece that was seen.
     #[test]
     fn column_open() -> Result<(), Fail> {
-        let settings = Settings { rows: 1, m: 2, n: 3 };
+        let settings = Settings {
+            rows: 1,
+            m: 2,
+            n: 3,
+        };
         let mut column = [0u16; 2];
-        check_eq(candidate::<Gf256Field>(settings, &[1], &[0x57], 0, 0xb6, &mut column), true)?;
+        check_eq(
+            candidate::<Gf256Field>(settings, &[1], &[0x57], 0, 0xb6, &mut column),
+            true,
+        )?;
         check_eq(column[0], 0xb6)?;
         check_eq(first_symbol(column), 0x57)?;
         let mut other = [0u16; 2];
-        check_eq(candidate::<Gf256Field>(settings, &[1], &[0x57], 0, 0, &mut other), true)?;
+        check_eq(
+            candidate::<Gf256Field>(settings, &[1], &[0x57], 0, 0, &mut other),
+            true,
+        )?;
         check_eq(other[0], 0)?;
         check_eq(first_symbol(other), 0x57)
     }
@@ -91,9 +101,16 @@ mod tests {
     // A column of two places has no place 2.
     #[test]
     fn place_refused() -> Result<(), Fail> {
-        let settings = Settings { rows: 1, m: 2, n: 3 };
+        let settings = Settings {
+            rows: 1,
+            m: 2,
+            n: 3,
+        };
         let mut column = [3u16, 5];
-        check_eq(candidate::<Gf256Field>(settings, &[1], &[0x57], 2, 0xb6, &mut column), false)?;
+        check_eq(
+            candidate::<Gf256Field>(settings, &[1], &[0x57], 2, 0xb6, &mut column),
+            false,
+        )?;
         check_eq(column, [3, 5])
     }
 }

@@ -1,8 +1,8 @@
-use mathlib.Core.Path.{_≡_, sym, ap, subst, _∙_}
+use mathlib.Core.Path.{_≡_, sym, subst}
 use mathlib.Core.List.{List}
-use Prim.Native.Nat.{ℕ, _+_, _<_, _≤_}
+use Prim.Native.Nat.{ℕ, _+_}
 use native.Mathlib.Omega.{arith}
-use lib.ListN.{length}
+use lib.ListN.{length, getD}
 use Rattle.algebra.specs.Codes.{Regular}
 use Rattle.algebra.specs.Flat.{Grid, Eliminated, cell}
 use Rattle.piece.proofs.Candidates.{regular, found}
@@ -33,4 +33,4 @@ returns g c =
     (subst (λ (n : ℕ). Eliminated K (length (c .args .factors .now)) n rows after) (c .pre .row) (c .eliminate .ensures .eliminated)) in
     found (g .F·Field·met .laws) (g .F·Field·met .bounds) (c .args .settings) (c .args .numbers .now) (c .args .symbols .now) (c .args .place) (c .args .value) (length (c .args .column .now))
     (c .pre .asked) rows (c .lay-system .ensures) after (c .copy-last .last .column) done
-    (λ j l. c .copy-last .ensures j (omega (arith, c .pre .asked .room)) ∙ ap (λ (n : ℕ). cell (n + 1) after j n) (c .pre .asked .room))
+    (λ j l. subst (λ (n : ℕ). getD (c .copy-last .last .column) j 0 ≡ cell (n + 1) after j n) (c .pre .asked .room) (c .copy-last .ensures j (omega (arith, c .pre .asked .room))))

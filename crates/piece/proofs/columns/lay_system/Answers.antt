@@ -29,6 +29,15 @@ loop-r-holds g c =
     (c .read-place .ensures .one) (λ j l n. c .read-place .ensures .zeros j (omega arith) n)
     (ap (λ (n : ℕ). getD (c .read-place .last .row) n 0) (sym last) ∙ c .read-place .ensures .value)
 
+pub part-read-piece-end : need.part-read-piece-end
+part-read-piece-end g c =
+    let m : ℕ = c .args .settings .m in
+    let r : ℕ = c .loop-r .r in
+    let lr : r + 1 < m = omega (arith, c .pre .asked .numbered, c .loop-r-test .taken) in
+    let h = row-fits (r + 1) m (m + 1) lr in
+    let k : (r + 1) * (m + 1) + (m + 1) ≤ length (c .loop-r .grid) = omega arith in
+    search needs
+
 pub loop-r-again : need.loop-r-again
 loop-r-again g c =
     let m : ℕ = c .args .settings .m in
