@@ -3,11 +3,11 @@ use mathlib.Core.Path.{_≡_, sym, ap, _∙_, subst}
 use mathlib.Core.Logic.{_≢_}
 use mathlib.Core.Bool.{Bool, true, false, cond}
 use mathlib.Core.List.{List}
-use Prim.Native.Nat.{ℕ, _+_, _-_, _*_, _<_, _≤_}
+use Prim.Native.Nat.{ℕ, _+_, _-_, _*_, _<_}
 use native.Mathlib.Omega.{arith}
 use native.Mathlib.Decide.{decLt}
 use lib.Dec.{eqb}
-use lib.ListN.{length, getD}
+use lib.ListN.{length}
 use Rattle.std.proofs.shelf.Lists.{getD-past}
 use Rattle.field.specs.Laws.{Ops, FieldLaws, Bounds}
 use Rattle.field.proofs.Bounds.{rows-fit, byte-is-a-code}
@@ -19,7 +19,7 @@ use Rattle.algebra.proofs.Codes.{up, field, up-add, up-neg, up-dot, up-zero, up
 use Rattle.algebra.proofs.OnCodes.{vandermonde-few, cauchy-few}
 use Rattle.piece.specs.declared.Settings.{Settings}
 use Rattle.piece.specs.Layouts.{Bytes}
-use Rattle.piece.specs.Pieces.{Lawful, entry, place, value}
+use Rattle.piece.specs.Pieces.{Lawful, place, value}
 use Rattle.piece.specs.Columns.{Distance}
 
 module _ {F : Type 0} {o e : F} {_⊕_ _⊗_ : F → F → F} {neg inv : F → F} (K : Field o e _⊕_ _⊗_ neg inv) where

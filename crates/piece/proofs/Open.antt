@@ -1,17 +1,16 @@
 -- What m - 1 symbols of a column leave open. Assumes nothing.
 use mathlib.Core.Path.{_≡_, sym, ap, _∙_}
-use mathlib.Core.Logic.{_≢_}
-use mathlib.Core.Bool.{Bool, false, cond}
-use Prim.Native.Nat.{ℕ, suc, _+_, _-_, _<_, _≤_}
+use mathlib.Core.Bool.{cond}
+use Prim.Native.Nat.{ℕ, suc, _+_, _-_, _<_}
 use native.Mathlib.Omega.{arith}
 use lib.Dec.{eqb}
 use Rattle.field.specs.Laws.{Ops, FieldLaws, Bounds}
 use Rattle.field.proofs.Bounds.{rows-fit}
-use Rattle.algebra.specs.Codes.{Below, Points, dot, power, cauchy}
+use Rattle.algebra.specs.Codes.{Points, dot, power, cauchy}
 use Rattle.algebra.proofs.OnCodes.{any-value-fits, in-one-way}
 use Rattle.piece.specs.declared.Settings.{Settings}
 use Rattle.piece.specs.Pieces.{entry}
-use Rattle.piece.specs.Columns.{Seen, Fits, Hiding}
+use Rattle.piece.specs.Columns.{Seen, Hiding}
 
 module _ {K : Ops} (L : FieldLaws K) (B : Bounds K) (S : Settings) (number symbol : ℕ → ℕ) (seen : Seen K S number symbol) where
   -- the point of a piece's row

@@ -1,10 +1,10 @@
--- Two theorems on the columns of a job: how far two jobs are apart, and what m - 1 symbols of a column leave open.
--- Assumes nothing.
+-- Two theorems on the columns of a job: how far two jobs are apart, and what m - 1 symbols of a column leave open; and
+-- what the call answers that finds the column that fits. Assumes nothing.
 use mathlib.Core.Path.{_≡_}
 use mathlib.Core.Logic.{_≢_}
 use mathlib.Core.Bool.{Bool}
 use mathlib.Core.List.{List}
-use Prim.Native.Nat.{ℕ, _+_, _-_, _*_, _<_, _≤_}
+use Prim.Native.Nat.{ℕ, _+_, _-_, _<_, _≤_}
 use lib.Dec.{T}
 use lib.ListN.{length, getD}
 use Rattle.field.specs.Laws.{Ops}

@@ -1,11 +1,11 @@
-use mathlib.Core.Path.{_≡_, sym, ap, subst, _∙_}
+use mathlib.Core.Path.{_≡_, sym, subst, _∙_}
 use mathlib.Core.Logic.{_≢_}
 use mathlib.Core.List.{List, _++_}
 use Prim.Native.Nat.{ℕ, _+_, _-_, _<_, _≤_}
 use native.Mathlib.Omega.{arith}
 use native.Mathlib.Decide.{ℕ-discrete}
 use borrow.Rule.Slice.PartMut.{postOf}
-use lib.ListN.{length, getD, set, take, length-set, length-append, length-drop}
+use lib.ListN.{length, getD, set, length-set, length-append, length-drop}
 use lib.Seq.{getD-set-same, getD-set-other, length-take-le}
 use Rattle.std.proofs.shelf.Lists.{getD-append-left}
 use Rattle.piece.proofs.columns.read_piece.Needs as need
