@@ -9,3 +9,6 @@ pub mod Headers
 pub mod Cuts
 pub mod Fields
 pub mod Readings
+pub mod Apart
+pub mod Open
+pub mod Candidates

@@ -1,5 +1,5 @@
--- Two theorems on the columns of a job: how far two jobs are apart, and what m - 1 symbols of a column leave open.
--- Assumes nothing.
+-- Two theorems on the columns of a job: how far two jobs are apart, and what m - 1 symbols of a column leave open; and
+-- what the call answers that finds the column that fits. Assumes nothing.
 use mathlib.Core.Path.{_≡_}
 use mathlib.Core.Logic.{_≢_}
 use mathlib.Core.Bool.{Bool}
@@ -10,6 +10,7 @@ use lib.ListN.{length, getD}
 use Rattle.field.specs.Laws.{Ops}
 use Rattle.algebra.specs.Codes.{Below, dot}
 use Rattle.algebra.specs.Field.{Distinct, count}
+use Rattle.algebra.specs.Flat.{Grid, cell}
 use Rattle.piece.specs.declared.Settings.{Settings}
 use Rattle.piece.specs.Layouts.{Bytes}
 use Rattle.piece.specs.Pieces.{Lawful, columns, entry, place, value}
@@ -44,3 +45,33 @@ Hiding K =
     (S : Settings) (number symbol : ℕ → ℕ) → Seen K S number symbol → (p : ℕ) → p < S .m → (v : ℕ) → v < K .order
     → (x : ℕ → ℕ) × Fits K S number symbol p v x
     × ((y : ℕ → ℕ) → Fits K S number symbol p v y → (j : ℕ) → j < S .m → y j ≡ x j)
+
+-- different numbers from 1 to n
+pub record Numbers (n : ℕ) (numbers : List ℕ) : Type 0 where
+  pub least : (r : ℕ) → r < length numbers → 1 ≤ getD numbers r 0
+  pub most : (r : ℕ) → r < length numbers → getD numbers r 0 ≤ n
+  pub differ : Distinct (length numbers) (λ r. getD numbers r 0)
+
+-- a column is asked for by m - 1 different pieces and one symbol of each, a place, an element for it, and room for m elements
+pub record InRange (K : Ops) (S : Settings) (numbers symbols : List ℕ) (p v len : ℕ) : Type 0 where
+  pub seen : Seen K S (λ r. getD numbers r 0) (λ r. getD symbols r 0)
+  pub numbered : length numbers ≡ S .m - 1
+  pub told : length symbols ≡ S .m - 1
+  pub place : p < S .m
+  pub value : v < K .order
+  pub room : len ≡ S .m
+
+-- the column fits, and no other does
+pub record Candidate (K : Ops) (S : Settings) (numbers symbols : List ℕ) (p v : ℕ) (column : List ℕ) : Type 0 where
+  pub fits : Fits K S (λ r. getD numbers r 0) (λ r. getD symbols r 0) p v (λ j. getD column j 0)
+  pub only : (y : ℕ → ℕ) → Fits K S (λ r. getD numbers r 0) (λ r. getD symbols r 0) p v y
+      → (j : ℕ) → j < S .m → y j ≡ getD column j 0
+
+-- the system that a column fits: a row that reads the place p, then the row of each piece; the right side stands last
+pub record System (K : Ops) (S : Settings) (numbers symbols : List ℕ) (p v : ℕ) (rows : List ℕ) : Type 0 where
+  pub grid : Grid (K .order) (S .m) (S .m + 1) rows
+  pub one : cell (S .m + 1) rows 0 p ≡ 1
+  pub zeros : (j : ℕ) → j < S .m → j ≢ p → cell (S .m + 1) rows 0 j ≡ 0
+  pub value : cell (S .m + 1) rows 0 (S .m) ≡ v
+  pub entries : (r j : ℕ) → r < S .m - 1 → j < S .m → cell (S .m + 1) rows (r + 1) j ≡ entry K S (getD numbers r 0) j
+  pub told : (r : ℕ) → r < S .m - 1 → cell (S .m + 1) rows (r + 1) (S .m) ≡ getD symbols r 0

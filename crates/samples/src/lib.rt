@@ -13,6 +13,8 @@ mod tests {
     use field::gf256::product;
     use field::mod257::Mod257;
     use field::mod257::Mod257Field;
+    use piece::Settings;
+    use piece::columns::candidate;
     use std::test::*;
 
     // 57 times 83 is C1, also by whole rows.
@@ -66,5 +68,49 @@ mod tests {
         check_eq(rows[2] ^ Gf256::mul(2, rows[6] & 0xff), 5)?;
         check_eq(rows[3] ^ rows[7], 0)?;
         check_eq(rows[3] ^ Gf256::mul(2, rows[7] & 0xff), 1)
+    }
+    // The symbol of the piece numbered 1 of a column of two places: the entries are the inverses of 2 and 3.
+    fn first_symbol(column: [u16; 2]) -> u16 {
+        Gf256::mul(0x8d, column[0] & 0xff) ^ Gf256::mul(0xf6, column[1] & 0xff)
+    }
+
+    // Whatever stands at the first place, a column gives the symbol of the piece that was seen.
+    #[test]
+    fn column_open() -> Result<(), Fail> {
+        let settings = Settings {
+            rows: 1,
+            m: 2,
+            n: 3,
+        };
+        let mut column = [0u16; 2];
+        check_eq(
+            candidate::<Gf256Field>(settings, &[1], &[0x57], 0, 0xb6, &mut column),
+            true,
+        )?;
+        check_eq(column[0], 0xb6)?;
+        check_eq(first_symbol(column), 0x57)?;
+        let mut other = [0u16; 2];
+        check_eq(
+            candidate::<Gf256Field>(settings, &[1], &[0x57], 0, 0, &mut other),
+            true,
+        )?;
+        check_eq(other[0], 0)?;
+        check_eq(first_symbol(other), 0x57)
+    }
+
+    // A column of two places has no place 2.
+    #[test]
+    fn place_refused() -> Result<(), Fail> {
+        let settings = Settings {
+            rows: 1,
+            m: 2,
+            n: 3,
+        };
+        let mut column = [3u16, 5];
+        check_eq(
+            candidate::<Gf256Field>(settings, &[1], &[0x57], 2, 0xb6, &mut column),
+            false,
+        )?;
+        check_eq(column, [3, 5])
     }
 }

@@ -20,7 +20,7 @@ use field::Field;
 // The longest job.
 const LONGEST: usize = 4096;
 
-fn in_range(settings: Settings) -> bool
+pub(crate) fn in_range(settings: Settings) -> bool
     ensures { λ r. ⌜ r ≡ in-range settings ⌝ }
 {
     settings.rows <= 1
