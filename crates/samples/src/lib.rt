@@ -13,8 +13,17 @@ mod tests {
     use field::gf256::product;
     use field::mod257::Mod257;
     use field::mod257::Mod257Field;
-    use piece::Settings;
     use piece::columns::candidate;
+    use piece::Settings;
+    use piece::SettingsDebug;
+    use piece::SettingsPartialEq;
+    use piece::fault::CutFaultDebug;
+    use piece::fault::CutFaultPartialEq;
+    use piece::fault::ReadFault;
+    use piece::fault::ReadFaultDebug;
+    use piece::fault::ReadFaultPartialEq;
+    use piece::layout::cut::cut;
+    use piece::read::read;
     use std::test::*;
 
     // 57 times 83 is C1, also by whole rows.
@@ -112,5 +121,39 @@ mod tests {
             false,
         )?;
         check_eq(column, [3, 5])
+    }
+
+    // The worked piece, cut to the byte, with what stands behind it left alone.
+    #[test]
+    fn piece_cut() -> Result<(), Fail> {
+        let settings = Settings { rows: 0, m: 2, n: 3 };
+        let mut out = [0xeeu8; 14];
+        let made = cut::<Gf256Field>(settings, 1, 7, 1, &[1, 2, 3], &mut out);
+        check_eq(made, Ok(12))?;
+        check_eq(out, [1, 0x10, 0, 3, 0, 7, 0, 0, 0, 1, 3, 3, 0xee, 0xee])
+    }
+
+    // And read: the header's fields, and the body as a part of the bytes.
+    #[test]
+    fn piece_read() -> Result<(), Fail> {
+        let bytes = [1u8, 0x10, 0, 3, 0, 7, 0, 0, 0, 1, 3, 3];
+        match read::<Gf256Field>(&bytes) {
+            Ok(piece) => {
+                check_eq(piece.header.job, 7)?;
+                check_eq(piece.header.settings, Settings { rows: 0, m: 2, n: 3 })?;
+                check_eq(piece.body.len(), 2)
+            }
+            Err(_) => Err(Fail::new("refused")),
+        }
+    }
+
+    // A value of 257 begins in the byte 11.
+    #[test]
+    fn value_refused() -> Result<(), Fail> {
+        let bytes = [0x41u8, 0x10, 0, 4, 0, 7, 0, 0, 0, 1, 0x00, 0x40, 0x40];
+        match read::<Mod257Field>(&bytes) {
+            Ok(_) => Err(Fail::new("accepted")),
+            Err(fault) => check_eq(fault, ReadFault::Value { byte: 11 }),
+        }
     }
 }
