@@ -9,3 +9,4 @@ pub mod Headers
 pub mod Cuts
 pub mod Fields
 pub mod Readings
+pub mod Exact

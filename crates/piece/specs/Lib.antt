@@ -6,3 +6,4 @@ pub mod Cutting
 pub mod Columns
 pub mod Worked
 pub mod Reading
+pub mod Composed

@@ -4,6 +4,7 @@ ghost use Prim.Native.Nat.{_+_, _-_, _*_, _/_, _≤_};
 ghost use lib.ListN.{drop, length};
 ghost use mathlib.Core.Logic.{_≢_};
 ghost use Rattle.std.specs.Results.{Cases};
+ghost use Rattle.piece.specs.Composed.{Reader-exact, Reads-back};
 ghost use Rattle.piece.specs.Reading.{Accepts, BadBody, GoodBody, Refuses, codeIn, count, headerIn, sensible};
 use crate::Header;
 use crate::Settings;
@@ -106,4 +107,14 @@ pub fn read<F: Field>(piece: &[u8]) -> Result<Piece<'_>, ReadFault>
     }
     check_body::<F>(&header, body)?;
     Ok(Piece { header, body })
+}
+
+// The reader accepts exactly the bytes that are some header with a lawful body, and reads back what was cut: for every
+// field. Answers how many statements there are.
+pub fn reading_stands<F: Field>() -> u8
+    ensures exact { λ _. ⌜ Reader-exact ops ⌝ }
+    ensures back { λ _. ⌜ Reads-back ops ⌝ }
+    ensures number { λ r. ⌜ r ≡ 2 ⌝ }
+{
+    2
 }
