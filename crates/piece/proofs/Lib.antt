@@ -12,3 +12,4 @@ pub mod Readings
 pub mod Apart
 pub mod Open
 pub mod Candidates
+pub mod Exact
