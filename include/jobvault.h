@@ -39,8 +39,8 @@ extern "C" {
  * out         out_len bytes; the piece is written to its front
  *
  * Answers the piece's length, 10 to 4,618, and leaves the bytes of `out` behind it as they were; or answers a refusal
- * and leaves all of `out` as it was. A piece has 10 bytes and then ceil(K * w / 8), where K is job_len / m rounded up and w is
- * 8 over GF(2^8), 9 modulo 257. Every 32-bit number may be passed: one out of range is refused, however large.
+ * and leaves all of `out` as it was. A piece has 10 bytes and then ceil(K * w / 8), where K is job_len / m rounded up
+ * and w is 8 over GF(2^8), 9 modulo 257. Every 32-bit number may be passed: one out of range is refused, however large.
  *
  * The caller owes: `job` points to job_len readable bytes and `out` to out_len writable ones, the two do not overlap,
  * and nothing else writes to either during the call. A pointer may be null where its length is 0, and only there.
