@@ -1,13 +1,12 @@
 // Pieces of a job: settings, cutting and reading.
 pub mod bits;
 pub mod columns;
+mod entries;
 pub mod fault;
+mod head;
 pub mod layout;
 pub mod read;
 pub mod worked;
-
-mod entries;
-mod head;
 
 // How a job is cut: the kind of rows (0 Vandermonde, 1 Cauchy), how many pieces bring it back, and how many there are.
 // Any numbers may stand here; the calls refuse what is out of range.

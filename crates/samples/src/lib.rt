@@ -13,10 +13,10 @@ mod tests {
     use field::gf256::product;
     use field::mod257::Mod257;
     use field::mod257::Mod257Field;
-    use piece::columns::candidate;
     use piece::Settings;
     use piece::SettingsDebug;
     use piece::SettingsPartialEq;
+    use piece::columns::candidate;
     use piece::fault::CutFaultDebug;
     use piece::fault::CutFaultPartialEq;
     use piece::fault::ReadFault;
@@ -126,7 +126,11 @@ mod tests {
     // The worked piece, cut to the byte, with what stands behind it left alone.
     #[test]
     fn piece_cut() -> Result<(), Fail> {
-        let settings = Settings { rows: 0, m: 2, n: 3 };
+        let settings = Settings {
+            rows: 0,
+            m: 2,
+            n: 3,
+        };
         let mut out = [0xeeu8; 14];
         let made = cut::<Gf256Field>(settings, 1, 7, 1, &[1, 2, 3], &mut out);
         check_eq(made, Ok(12))?;
@@ -140,7 +144,14 @@ mod tests {
         match read::<Gf256Field>(&bytes) {
             Ok(piece) => {
                 check_eq(piece.header.job, 7)?;
-                check_eq(piece.header.settings, Settings { rows: 0, m: 2, n: 3 })?;
+                check_eq(
+                    piece.header.settings,
+                    Settings {
+                        rows: 0,
+                        m: 2,
+                        n: 3,
+                    },
+                )?;
                 check_eq(piece.body.len(), 2)
             }
             Err(_) => Err(Fail::new("refused")),
