@@ -1,4 +1,4 @@
-"""Pieces of jobs, written a second time from docs/FORMAT.md and docs/FIELDS.md alone.
+"""Pieces of jobs a second time, after docs/FORMAT.md and docs/FIELDS.md; it shares no code with the product.
 
 It is there to be compared with, so it takes other ways than the product where it can: logarithms for GF(2^8), powers
 for inverses modulo 257, whole numbers and text of digits for bits. It is meant to be read, not to be fast.

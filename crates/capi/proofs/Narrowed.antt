@@ -3,7 +3,7 @@ use mathlib.Core.Path.{_≡_, refl, sym, ap, _∙_, subst}
 use mathlib.Core.Bool.{Bool, true, false, cond}
 use mathlib.Core.Logic.{_⊎_, inl, inr}
 use mathlib.Core.List.{List}
-use Prim.Native.Nat.{ℕ, _+_, _-_, _*_, _/_, _<_, _≤_, min}
+use Prim.Native.Nat.{ℕ, _*_, _<_, _≤_, min}
 use native.Mathlib.Nat.{min-eq-left, min-eq-right, mul-le-mul}
 use native.Mathlib.Omega.{arith}
 use native.Mathlib.Decide.{decLt}
@@ -13,7 +13,6 @@ use lib.IntN.{pos, negℤ}
 use lib.ListN.{length}
 use Rattle.std.specs.declared.result.Result.{Result}
 use Rattle.std.specs.declared.result.Result.the-variants.{Ok, Err}
-use Rattle.std.proofs.shelf.Ways.{tells}
 use Rattle.field.specs.Laws.{Ops, Bounds}
 use Rattle.piece.specs.declared.Settings.{Settings}
 use Rattle.piece.specs.declared.fault.CutFault.{CutFault}
