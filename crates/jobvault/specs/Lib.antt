@@ -1,3 +1,6 @@
 pub mod Numeral
 pub mod Named
+pub mod Options
+pub mod Scans
+pub mod Requests
 pub mod Command
