@@ -14,7 +14,7 @@ pub enum Refusal {
 }
 
 // The digit that a character is in a base up to 16, in either case of its letters.
-fn digit(c: u8, base: u32) -> Option<u32>
+fn digit(c: u8, base: u64) -> Option<u64>
     requires { ⌜ base ≤ 16 ⌝ }
     ensures cases { λ r. ⌜ Cases r (base ≤ worth c) (λ d. (d ≡ worth c) × (d < base)) ⌝ }
 {
@@ -24,12 +24,12 @@ fn digit(c: u8, base: u32) -> Option<u32>
         b'a'..=b'f' => c - b'a' + 10,
         _ => return None,
     };
-    let worth = u32::from(worth);
+    let worth = u64::from(worth);
     if worth < base { Some(worth) } else { None }
 }
 
 // The number that digits write, if it is at most `most`. A text that is no number is refused as such however long it is.
-fn number(digits: &[u8], base: u32, most: u32) -> Result<u32, Refusal>
+fn number(digits: &[u8], base: u64, most: u32) -> Result<u32, Refusal>
     requires least { ⌜ 1 ≤ base ⌝ }
     requires largest { ⌜ base ≤ 16 ⌝ }
     ensures reading { λ r. ⌜ Reading base most (now (digits .entry)) r ⌝ }
@@ -44,7 +44,7 @@ fn number(digits: &[u8], base: u32, most: u32) -> Result<u32, Refusal>
         let Some(d) = digit(*c, base) else {
             return Err(Refusal::NotANumber);
         };
-        value = (value * u64::from(base) + u64::from(d)).min(limit);
+        value = (value * base + d).min(limit);
     }
     if value == limit {
         return Err(Refusal::TooLarge);
