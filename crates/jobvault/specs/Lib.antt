@@ -3,4 +3,5 @@ pub mod Named
 pub mod Options
 pub mod Scans
 pub mod Requests
+pub mod Files
 pub mod Command
