@@ -31,8 +31,9 @@ module _ {Z : Type 0} (K : Ops) (S : Settings) (jn st : ℕ) (job : List ℕ) wh
   at n ps v h c k d lt =
       let l : length ps ≡ n = c .0 in
       elim (cases-lt k n) [
-        inl less ↦ ap vec-items (getD-append-left ps (v ∷ []) d k (omega arith)) ∙ c .1 k d less
-      | inr more ↦ (let e : n ≡ k = omega arith in ap vec-items (getD-push ps v d k (l ∙ e)) ∙ h ∙ ap (λ (i : ℕ). piece K S (i + 1) jn st job) e) ]
+        | inl less ↦ ap vec-items (getD-append-left ps (v ∷ []) d k (omega arith)) ∙ c .1 k d less
+        | inr more ↦ (let e : n ≡ k = omega arith in ap vec-items (getD-push ps v d k (l ∙ e)) ∙ h ∙ ap (λ (i : ℕ). piece K S (i + 1) jn st job) e)
+      ]
 
   pub cuts-more : (n : ℕ) (ps qs : List (Vec ℕ Z)) (v : Vec ℕ Z) → qs ≡ ps ++ (v ∷ []) → vec-items v ≡ piece K S (n + 1) jn st job → Cuts K S jn st job n ps → Cuts K S jn st job (n + 1) qs
   cuts-more n ps qs v e h c =

@@ -25,7 +25,13 @@ use std::alloc::Global;
 const LONGEST: usize = 4618;
 
 // The bytes of the piece of this number.
-fn bytes<F: Field>(heap: Global, layout: &Layout, number: u8, job: u16, stamp: u32) -> Result<Vec<u8>, Problem>
+fn bytes<F: Field>(
+    heap: Global,
+    layout: &Layout,
+    number: u8,
+    job: u16,
+    stamp: u32,
+) -> Result<Vec<u8>, Problem>
     ensures piece { λ r. ⌜ made r (λ v. vec-items v ≡ piece ops (now (layout .entry) .settings) number job stamp (jobOf (now (layout .entry)))) ⌝ }
 {
     let mut buffer = [0u8; LONGEST];
@@ -34,7 +40,11 @@ fn bytes<F: Field>(heap: Global, layout: &Layout, number: u8, job: u16, stamp: u
 }
 
 // The bytes of each piece, the first piece first.
-fn each<F: Field>(heap: Global, layout: &Layout, options: &CutOptions) -> Result<Vec<Vec<u8>>, Problem>
+fn each<F: Field>(
+    heap: Global,
+    layout: &Layout,
+    options: &CutOptions,
+) -> Result<Vec<Vec<u8>>, Problem>
     ensures cuts { λ r. ⌜ made r (λ all. Cuts ops (now (layout .entry) .settings) (now (options .entry) .job) (now (options .entry) .stamp) (jobOf (now (layout .entry))) (now (options .entry) .total) (vec-items all)) ⌝ }
 {
     let mut all = Vec::new(heap);

@@ -27,7 +27,10 @@ pub impl fmt::Display for OptionProblem as OptionProblemDisplay {
             }
             OptionProblem::NotRows(word) => {
                 let word = word.as_str().escape_debug();
-                write!(f, "'{word}' is no kind of rows: the kinds are cauchy and vandermonde")
+                write!(
+                    f,
+                    "'{word}' is no kind of rows: the kinds are cauchy and vandermonde"
+                )
             }
             OptionProblem::TooLarge(word, setting) => {
                 let word = word.as_str().escape_debug();

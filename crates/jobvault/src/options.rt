@@ -48,7 +48,10 @@ fn number_in(heap: Global, setting: Setting, value: &str, most: u32) -> Result<u
     match code::read(value.as_bytes(), most) {
         Ok(number) => Ok(number),
         Err(Refusal::NotANumber) => Err(Problem::NotANumber(String::from_str(heap, value)?)),
-        Err(Refusal::TooLarge) => Err(Problem::Options(OptionProblem::TooLarge(String::from_str(heap, value)?, setting))),
+        Err(Refusal::TooLarge) => Err(Problem::Options(OptionProblem::TooLarge(
+            String::from_str(heap, value)?,
+            setting,
+        ))),
     }
 }
 
@@ -102,6 +105,10 @@ impl CutOptions {
     pub fn settings(&self) -> Settings
         ensures value { λ r. ⌜ r ≡ settingsOf (now (self .entry)) ⌝ }
     {
-        Settings { rows: self.rows.code(), m: self.need, n: self.total }
+        Settings {
+            rows: self.rows.code(),
+            m: self.need,
+            n: self.total,
+        }
     }
 }

@@ -1,12 +1,12 @@
 // Why the program ends with status 1.
+use crate::fault_text::Shown;
+use crate::fault_text::ShownDisplay;
 use crate::field_name::FieldName;
 use crate::file_problem::FileProblem;
 use crate::file_problem::FileProblemDisplay;
 use crate::help::Verb;
 use crate::option_problem::OptionProblem;
 use crate::option_problem::OptionProblemDisplay;
-use crate::fault_text::Shown;
-use crate::fault_text::ShownDisplay;
 use piece::fault::CutFault;
 use std::alloc::AllocError;
 use std::alloc::Refused;

@@ -35,5 +35,9 @@ pub fn read(heap: Global, words: &[String]) -> Result<Request, Problem>
     };
     let file = words[file].clone()?;
     let folder = words[folder].clone()?;
-    Ok(Request { options: scan.options, file, folder })
+    Ok(Request {
+        options: scan.options,
+        file,
+        folder,
+    })
 }

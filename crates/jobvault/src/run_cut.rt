@@ -8,7 +8,13 @@ use crate::request::Request;
 use crate::store;
 use std::io;
 
-fn show_sum(rt: &LibcRuntime, request: &Request, name: &String, job: usize, piece: usize) -> io::Result<()> {
+fn show_sum(
+    rt: &LibcRuntime,
+    request: &Request,
+    name: &String,
+    job: usize,
+    piece: usize,
+) -> io::Result<()> {
     let options = request.options;
     let name = name.as_str().escape_debug();
     let folder = request.folder.as_str().escape_debug();
@@ -17,7 +23,10 @@ fn show_sum(rt: &LibcRuntime, request: &Request, name: &String, job: usize, piec
     let piece = Counted(piece, "byte");
     let need = options.need;
     let bring = if need == 1 { "brings" } else { "bring" };
-    print!(rt, "{name}: {job} cut into {pieces} of {piece} in {folder}, any {need} {bring} it back")?;
+    print!(
+        rt,
+        "{name}: {job} cut into {pieces} of {piece} in {folder}, any {need} {bring} it back"
+    )?;
     let field = options.field.word();
     let rows = options.rows.word();
     let number = options.job;

@@ -55,22 +55,36 @@ impl Scan {
     pub fn start() -> Scan
         ensures value { λ r. ⌜ r ≡ start ⌝ }
     {
-        Scan { options: CutOptions::given(), next: Next::Word, names: Names::Neither }
+        Scan {
+            options: CutOptions::given(),
+            next: Next::Word,
+            names: Names::Neither,
+        }
     }
 
     fn set(self, heap: Global, setting: Setting, value: &str) -> Result<Scan, Problem>
         ensures takes { λ r. ⌜ made r (λ t. Takes setting (now (value .entry)) self t) ⌝ }
     {
         let options = self.options.with(heap, setting, value)?;
-        Ok(Scan { options, next: Next::Word, names: self.names })
+        Ok(Scan {
+            options,
+            next: Next::Word,
+            names: self.names,
+        })
     }
 
     fn name(self, at: usize) -> Result<Scan, Problem>
         ensures places { λ r. ⌜ made r (λ t. Places at self t) ⌝ }
     {
         match self.names {
-            Names::Neither => Ok(Scan { names: Names::File(at), ..self }),
-            Names::File(file) => Ok(Scan { names: Names::Both(file, at), ..self }),
+            Names::Neither => Ok(Scan {
+                names: Names::File(at),
+                ..self
+            }),
+            Names::File(file) => Ok(Scan {
+                names: Names::Both(file, at),
+                ..self
+            }),
             Names::Both(_, _) => Err(Problem::WordCount(Verb::Cut)),
         }
     }
@@ -80,7 +94,10 @@ impl Scan {
         ensures opens { λ r. ⌜ made r (λ t. Opens (now (word .entry)) self t) ⌝ }
     {
         if word == "--" {
-            return Ok(Scan { next: Next::Name, ..self });
+            return Ok(Scan {
+                next: Next::Name,
+                ..self
+            });
         }
         match word.split_once('=') {
             Some((name, value)) => {
@@ -89,7 +106,10 @@ impl Scan {
             }
             None => {
                 let setting = setting_in(heap, word)?;
-                Ok(Scan { next: Next::Value(setting), ..self })
+                Ok(Scan {
+                    next: Next::Value(setting),
+                    ..self
+                })
             }
         }
     }

@@ -42,9 +42,18 @@ pub fn name_of(heap: Global, file: &String) -> Result<String, Problem> {
 }
 
 // Where the pieces go, the first piece first.
-pub fn paths(heap: Global, folder: &String, name: &String, count: usize) -> Result<Vec<String>, Problem> {
+pub fn paths(
+    heap: Global,
+    folder: &String,
+    name: &String,
+    count: usize,
+) -> Result<Vec<String>, Problem> {
     let mut all = Vec::new(heap);
-    let between = if folder.as_str().ends_with('/') { "" } else { "/" };
+    let between = if folder.as_str().ends_with('/') {
+        ""
+    } else {
+        "/"
+    };
     for i in 0..count {
         let number = i + 1;
         all.push(format!(heap, "{folder}{between}{name}.{number:02}")?)?;

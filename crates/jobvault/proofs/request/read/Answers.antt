@@ -36,16 +36,18 @@ returns c =
     let both : Within (c .loop-at .at) (names.Both (c .in-Both .file) (c .in-Both .folder)) = subst (λ (ns : Names). Within (c .loop-at .at) ns) (c .in-Both .is) (c .loop-at .inv .1) in
     let first : c .in-Both .file < length ws = omega (arith, both .0) in
     let second : c .in-Both .folder < length ws = omega (arith, both .1) in
-    record { asked = record {
-      last = s;
-      runs = subst (λ (n : ℕ). Runs ws n s) all (c .loop-at .inv .0);
-      whole = c .in-rest .not-Value;
-      options = refl;
-      first = c .in-Both .file;
-      second = c .in-Both .folder;
-      names = c .in-Both .is;
-      first-within = first;
-      second-within = second;
-      file = λ d. c .in-Continue-file .ensures tt .cases ∙ ap string-bytes (getD-read ws (c .in-Both .file) (c .index-words-file .result) first (c .index-words-file .is) d);
-      folder = λ d. c .in-Continue-folder .ensures tt .cases ∙ ap string-bytes (getD-read ws (c .in-Both .folder) (c .index-words-folder .result) second (c .index-words-folder .is) d)
-    } }
+    record {
+      asked = record {
+        last = s;
+        runs = subst (λ (n : ℕ). Runs ws n s) all (c .loop-at .inv .0);
+        whole = c .in-rest .not-Value;
+        options = refl;
+        first = c .in-Both .file;
+        second = c .in-Both .folder;
+        names = c .in-Both .is;
+        first-within = first;
+        second-within = second;
+        file = λ d. c .in-Continue-file .ensures tt .cases ∙ ap string-bytes (getD-read ws (c .in-Both .file) (c .index-words-file .result) first (c .index-words-file .is) d);
+        folder = λ d. c .in-Continue-folder .ensures tt .cases ∙ ap string-bytes (getD-read ws (c .in-Both .folder) (c .index-words-folder .result) second (c .index-words-folder .is) d);
+      };
+    }
