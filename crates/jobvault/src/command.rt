@@ -9,14 +9,18 @@ use crate::field_name::FieldName;
 use crate::help::Verb;
 use crate::problem::Problem;
 use crate::problem::ProblemFromAlloc;
+use crate::request;
+use crate::request::Request;
+use std::alloc::Global;
 
-#[derive(Clone, Copy)]
+#[derive(Drop)]
 pub enum Command {
     Overview,
     About(Verb),
     Fields,
     Times(FieldName, u16, u16),
     Inverse(FieldName, u16),
+    Cut(Request),
 }
 
 fn field_in(word: &String) -> Result<FieldName, Problem> {
@@ -29,8 +33,8 @@ fn field_in(word: &String) -> Result<FieldName, Problem> {
 fn code_in(word: &String, field: FieldName) -> Result<u16, Problem>
     ensures below { λ r. ⌜ made r (λ x. x < opsOf field .order) ⌝ }
 {
-    match code::read(word.as_bytes(), field.largest()) {
-        Ok(code) => Ok(code),
+    match code::read(word.as_bytes(), u32::from(field.largest())) {
+        Ok(code) => Ok(code as u16),
         Err(Refusal::NotANumber) => Err(Problem::NotANumber(word.clone()?)),
         Err(Refusal::TooLarge) => Err(Problem::NotACode(word.clone()?, field)),
     }
@@ -80,7 +84,7 @@ fn help_in(words: &[String]) -> Result<Command, Problem>
 }
 
 // The words are those after the program's own name. Codes in a command are codes of its field.
-pub fn read(words: &[String]) -> Result<Command, Problem>
+pub fn read(heap: Global, words: &[String]) -> Result<Command, Problem>
     ensures sound { λ r. ⌜ made r Sound ⌝ }
 {
     let [verb, rest @ ..] = words else {
@@ -89,6 +93,7 @@ pub fn read(words: &[String]) -> Result<Command, Problem>
     match verb_in(verb)? {
         Verb::Times => times_in(rest),
         Verb::Inverse => inverse_in(rest),
+        Verb::Cut => Ok(Command::Cut(request::read(heap, rest)?)),
         Verb::Help => help_in(rest),
         Verb::Fields => {
             if rest.is_empty() {

@@ -1,6 +1,13 @@
 // Why the program ends with status 1.
+use crate::fault_text::Shown;
+use crate::fault_text::ShownDisplay;
 use crate::field_name::FieldName;
+use crate::file_problem::FileProblem;
+use crate::file_problem::FileProblemDisplay;
 use crate::help::Verb;
+use crate::option_problem::OptionProblem;
+use crate::option_problem::OptionProblemDisplay;
+use piece::fault::CutFault;
 use std::alloc::AllocError;
 use std::alloc::Refused;
 use std::fmt;
@@ -14,7 +21,10 @@ pub enum Problem {
     NotACode(String, FieldName),
     NoInverse(FieldName),
     WordCount(Verb),
+    Options(OptionProblem),
     Differs,
+    Cut(CutFault),
+    Files(FileProblem),
     NoWords(io::Error),
     Memory,
     System(io::Error),
@@ -28,7 +38,7 @@ pub impl fmt::Display for Problem as ProblemDisplay {
                 let word = word.as_str().escape_debug();
                 write!(
                     f,
-                    "'{word}' is no verb: the verbs are fields, times, inverse and help"
+                    "'{word}' is no verb: the verbs are fields, times, inverse, cut and help"
                 )
             }
             Problem::NotAField(word) => {
@@ -53,7 +63,10 @@ pub impl fmt::Display for Problem as ProblemDisplay {
             }
             Problem::NoInverse(field) => write!(f, "0 has no inverse in {}", field.word()),
             Problem::WordCount(verb) => write!(f, "usage: {}", verb.usage()),
+            Problem::Options(problem) => write!(f, "{problem}"),
             Problem::Differs => write!(f, "the implementations of a field differ"),
+            Problem::Cut(fault) => write!(f, "{}", Shown(*fault)),
+            Problem::Files(problem) => write!(f, "{problem}"),
             Problem::NoWords(e) => write!(f, "cannot read the words of the command line: {e}"),
             Problem::Memory => write!(f, "no memory is left"),
             Problem::System(e) => write!(f, "{e}"),
@@ -76,5 +89,11 @@ pub impl From<AllocError> for Problem as ProblemFromAlloc {
 pub impl<T: Drop> From<Refused<T>> for Problem as ProblemFromRefused {
     fn from(_e: Refused<T>) -> Problem {
         Problem::Memory
+    }
+}
+
+pub impl From<CutFault> for Problem as ProblemFromFault {
+    fn from(fault: CutFault) -> Problem {
+        Problem::Cut(fault)
     }
 }

@@ -9,6 +9,7 @@ use crate::field_name::FieldName;
 use crate::help::OVERVIEW;
 use crate::problem::Problem;
 use crate::problem::ProblemFromIo;
+use crate::run_cut;
 use std::io;
 
 fn show_tally(rt: &LibcRuntime, field: FieldName, tally: &Tally) -> io::Result<()> {
@@ -85,6 +86,7 @@ pub fn run(rt: &LibcRuntime, command: Command) -> Result<(), Problem>
         Command::Fields => show_fields(rt)?,
         Command::Times(field, a, b) => show_product(rt, field, a, b)?,
         Command::Inverse(field, a) => show_inverse(rt, field, a)?,
+        Command::Cut(request) => run_cut::run(rt, &request)?,
     }
     Ok(())
 }
