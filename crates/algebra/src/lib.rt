@@ -1,3 +1,4 @@
+#![tactic(auto)]
 ghost use Rattle.std.specs.Prelude.{ℕ, ◌+◌, ◌*◌, ◌<◌, ◌≤◌, get_or, length, ◌≢◌, ◌≡◌};
 ghost use Rattle.algebra.specs.Codes.{Regular};
 ghost use Rattle.algebra.specs.Field.{Added, Cleared, Columns, Scaled, Units};
@@ -46,15 +47,15 @@ fn find_pivot(rows: &[u16], m: usize, w: usize, c: usize) -> usize
 
 // Makes the entry of the row c in the column c not zero, by the row p, which is not zero there; row is scratch.
 fn raise<F: Field>(rows: &mut [u16], m: usize, c: usize, p: usize, row: &mut [u16])
-    requires grid { Grid ops.order m (length row.old) rows.old }
+    requires grid { Grid F.ops.order m (length row.old) rows.old }
     requires wide { m ≤ length row.old }
     requires from { c ≤ p }
     requires within { p < m }
     requires zero { c < p → cell (length row.old) rows.old c c ≡ 0 }
     requires other { cell (length row.old) rows.old p c ≢ 0 }
-    ensures grid { Grid ops.order m (length row.old) rows.new }
+    ensures grid { Grid F.ops.order m (length row.old) rows.new }
     ensures same { c ≡ p → rows.new ≡ rows.old }
-    ensures added { c < p → Columns (length row.old) (Added ops.add ops.mul m c p 1) (cell (length row.old) rows.old) (cell (length row.old) rows.new) }
+    ensures added { c < p → Columns (length row.old) (Added F.ops.add F.ops.mul m c p 1) (cell (length row.old) rows.old) (cell (length row.old) rows.new) }
     ensures pivot { cell (length row.old) rows.new c c ≢ 0 }
 {
     if c < p {
@@ -67,12 +68,12 @@ fn raise<F: Field>(rows: &mut [u16], m: usize, c: usize, p: usize, row: &mut [u1
 
 // Makes the entry of the row c in the column c one; row is scratch.
 fn normalize<F: Field>(rows: &mut [u16], m: usize, c: usize, row: &mut [u16])
-    requires grid { Grid ops.order m (length row.old) rows.old }
+    requires grid { Grid F.ops.order m (length row.old) rows.old }
     requires wide { m ≤ length row.old }
     requires within { c < m }
     requires pivot { cell (length row.old) rows.old c c ≢ 0 }
-    ensures grid { Grid ops.order m (length row.old) rows.new }
-    ensures scaled { Columns (length row.old) (Scaled ops.mul m c (ops.inv (cell (length row.old) rows.old c c))) (cell (length row.old) rows.old) (cell (length row.old) rows.new) }
+    ensures grid { Grid F.ops.order m (length row.old) rows.new }
+    ensures scaled { Columns (length row.old) (Scaled F.ops.mul m c (F.ops.inv (cell (length row.old) rows.old c c))) (cell (length row.old) rows.old) (cell (length row.old) rows.new) }
 {
     let w = row.len();
     let from = c * w;
@@ -82,11 +83,11 @@ fn normalize<F: Field>(rows: &mut [u16], m: usize, c: usize, row: &mut [u16])
 
 // Writes the opposite of each entry of the column c into factors, and 0 for the row c.
 fn opposites<F: Field>(factors: &mut [u16], rows: &[u16], w: usize, c: usize)
-    requires grid { Grid ops.order (length factors.old) w rows.now }
+    requires grid { Grid F.ops.order (length factors.old) w rows.now }
     requires row { c < length factors.old }
     requires column { c < w }
-    ensures codes { Codes ops.order factors.new }
-    ensures value { (r : ℕ) → r < length factors.old → r ≢ c → get_or factors.new r 0 ≡ ops.neg (cell w rows.now r c) }
+    ensures codes { Codes F.ops.order factors.new }
+    ensures value { (r : ℕ) → r < length factors.old → r ≢ c → get_or factors.new r 0 ≡ F.ops.neg (cell w rows.now r c) }
     ensures none { get_or factors.new c 0 ≡ 0 }
 {
     for r in 0..factors.len() {
@@ -97,11 +98,11 @@ fn opposites<F: Field>(factors: &mut [u16], rows: &[u16], w: usize, c: usize)
 
 // Makes each entry of the column c but that of the row c zero, where that one is 1; factors and row are scratch.
 fn clear_column<F: Field>(rows: &mut [u16], c: usize, factors: &mut [u16], row: &mut [u16])
-    requires grid { Grid ops.order (length factors.old) (length row.old) rows.old }
+    requires grid { Grid F.ops.order (length factors.old) (length row.old) rows.old }
     requires wide { length factors.old ≤ length row.old }
     requires within { c < length factors.old }
-    ensures grid { Grid ops.order (length factors.old) (length row.old) rows.new }
-    ensures cleared { Columns (length row.old) (Cleared ops.add ops.mul (length factors.old) c (λ r. ops.neg (cell (length row.old) rows.old r c))) (cell (length row.old) rows.old) (cell (length row.old) rows.new) }
+    ensures grid { Grid F.ops.order (length factors.old) (length row.old) rows.new }
+    ensures cleared { Columns (length row.old) (Cleared F.ops.add F.ops.mul (length factors.old) c (λ r. F.ops.neg (cell (length row.old) rows.old r c))) (cell (length row.old) rows.old) (cell (length row.old) rows.new) }
     ensures wiped { Wiped row.new }
 {
     let w = row.len();
@@ -114,10 +115,10 @@ fn clear_column<F: Field>(rows: &mut [u16], c: usize, factors: &mut [u16], row: 
 // then symbols, and each column of symbols is a right side of its own. At the end the coefficients are the identity and
 // the symbols are the solutions. There are as many rows as factors, each as long as row; both are scratch, and wiped.
 pub fn eliminate<F: Field>(rows: &mut [u16], factors: &mut [u16], row: &mut [u16])
-    requires grid { Grid ops.order (length factors.old) (length row.old) rows.old }
+    requires grid { Grid F.ops.order (length factors.old) (length row.old) rows.old }
     requires wide { length factors.old ≤ length row.old }
-    requires regular { Regular ops (length factors.old) (cell (length row.old) rows.old) }
-    ensures eliminated { Eliminated ops (length factors.old) (length row.old) rows.old rows.new }
+    requires regular { Regular F.ops (length factors.old) (cell (length row.old) rows.old) }
+    ensures eliminated { Eliminated F.ops (length factors.old) (length row.old) rows.old rows.new }
     ensures factors { Wiped factors.new }
     ensures row { Wiped row.new }
 {

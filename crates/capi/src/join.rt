@@ -92,7 +92,7 @@ fn part(bytes: &[u8], each: usize) -> (&[u8], &[u8])
 
 // Joins the pieces, each as long as the first, over any field.
 fn join_for<F: Field>(pieces: &[u8], each: usize, work: &mut [u16], job: &mut [u8]) -> i32
-    ensures answer { AnswersJoin ops (length work.old) each pieces.now job.old job.new result }
+    ensures answer { AnswersJoin F.ops (length work.old) each pieces.now job.old job.new result }
     ensures wiped { work.new ≡ replicate (length work.old) 0 }
 {
     let mut list: [&[u8]; MOST] = [&pieces[0..0]; MOST];

@@ -1,3 +1,4 @@
+#![tactic(auto)]
 // The functions that C calls. All exports of the repository stand here.
 ghost use Rattle.std.specs.Prelude.{◌≡◌, ℕ, min, length, pos, neg_ℤ};
 ghost use Rattle.field.specs.Gf256.{gf256};
@@ -45,8 +46,8 @@ fn cut_for<F: Field>(
     job: &[u8],
     out: &mut [u8],
 ) -> i32
-    ensures answer { result ≡ answered (cutting ops (asked rows m n) job.now number (length out.old)) }
-    ensures bytes { out.new ≡ written (cutting ops (asked rows m n) job.now number (length out.old)) (piece ops (asked rows m n) number job_number stamp job.now) out.old }
+    ensures answer { result ≡ answered (cutting F.ops (asked rows m n) job.now number (length out.old)) }
+    ensures bytes { out.new ≡ written (cutting F.ops (asked rows m n) job.now number (length out.old)) (piece F.ops (asked rows m n) number job_number stamp job.now) out.old }
 {
     let settings = Settings {
         rows: narrow(rows),

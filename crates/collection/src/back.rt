@@ -15,7 +15,7 @@ use piece::entries::entries;
 fn lay_entries<F: Field>(book: &Book, rows: &mut [u16])
     requires full { book.now.have ≡ places book.now }
     requires size { length rows.old ≡ places book.now * stride book.now }
-    ensures { Entered ops book.now rows.old rows.new }
+    ensures { Entered F.ops book.now rows.old rows.new }
 {
     let m = book.needs() as usize;
     let w = m + book.columns();
@@ -27,13 +27,13 @@ fn lay_entries<F: Field>(book: &Book, rows: &mut [u16])
 
 // Turns the rows of the pieces into rows of the job's symbols; factors and row are scratch, and wiped.
 pub fn bring_back<F: Field>(book: &Book, rows: &mut [u16], factors: &mut [u16], row: &mut [u16])
-    requires field { For ops book.now.field }
+    requires field { For F.ops book.now.field }
     requires full { book.now.have ≡ places book.now }
     requires size { length rows.old ≡ places book.now * stride book.now }
     requires codes { SymbolsBelow book.now rows.old }
     requires factors { length factors.old ≡ places book.now }
     requires row { length row.old ≡ stride book.now }
-    ensures brought { Brought ops book.now rows.old rows.new }
+    ensures brought { Brought F.ops book.now rows.old rows.new }
     ensures factors { Wiped factors.new }
     ensures row { Wiped row.new }
 {

@@ -11,10 +11,10 @@ use field::Field;
 
 // Adds the pieces in the order of the list, up to the first that is refused, whose place it answers then.
 fn feed<F: Field>(collection: &mut Open<'_>, pieces: &[&[u8]]) -> Result<(), (usize, AddFault)>
-    requires { opened collection.old ≡ fresh ops (opened collection.old).room }
+    requires { opened collection.old ≡ fresh F.ops (opened collection.old).room }
     ensures named { collection.new.work.ghost_name ≡ collection.old.work.ghost_name }
-    ensures fed { MatchResult result (λ _. Feeds ops (opened collection.old).room (bytes_in pieces.now) (length (bytes_in pieces.now)) × (opened collection.new ≡ fed ops (opened collection.old).room (bytes_in pieces.now) (length (bytes_in pieces.now))))
-        (λ e. (e.0 < length (bytes_in pieces.now)) × Feeds ops (opened collection.old).room (bytes_in pieces.now) e.0 × RefusesPiece ops (fed ops (opened collection.old).room (bytes_in pieces.now) e.0) (slice_index_or (bytes_in pieces.now) e.0 []) e.1) }
+    ensures fed { MatchResult result (λ _. Feeds F.ops (opened collection.old).room (bytes_in pieces.now) (length (bytes_in pieces.now)) × (opened collection.new ≡ fed F.ops (opened collection.old).room (bytes_in pieces.now) (length (bytes_in pieces.now))))
+        (λ e. (e.0 < length (bytes_in pieces.now)) × Feeds F.ops (opened collection.old).room (bytes_in pieces.now) e.0 × RefusesPiece F.ops (fed F.ops (opened collection.old).room (bytes_in pieces.now) e.0) (slice_index_or (bytes_in pieces.now) e.0 []) e.1) }
 {
     for at in 0..pieces.len() {
         if let Err(fault) = collection.add::<F>(pieces[at]) {
@@ -26,7 +26,7 @@ fn feed<F: Field>(collection: &mut Open<'_>, pieces: &[&[u8]]) -> Result<(), (us
 
 // Joins the pieces; the work is left as it may be.
 fn join_in<F: Field>(pieces: &[&[u8]], work: &mut [u16], job: &mut [u8]) -> Result<usize, JoinFault>
-    ensures { Joins ops (length work.old) (bytes_in pieces.now) job.old job.new result }
+    ensures { Joins F.ops (length work.old) (bytes_in pieces.now) job.old job.new result }
 {
     let mut collection = Open::start::<F>(work);
     if let Err((at, fault)) = feed::<F>(&mut collection, pieces) {
@@ -53,9 +53,9 @@ pub fn join<F: Field>(
     work: &mut [u16],
     job: &mut [u8],
 ) -> Result<usize, JoinFault>
-    ensures answer { Joins ops (length work.old) (bytes_in pieces.now) job.old job.new result }
-    ensures back { AnyMBringBack ops (length work.old) (bytes_in pieces.now) job.old job.new result }
-    ensures none { NoJobIsMadeUp ops (length work.old) (bytes_in pieces.now) job.old job.new result }
+    ensures answer { Joins F.ops (length work.old) (bytes_in pieces.now) job.old job.new result }
+    ensures back { AnyMBringBack F.ops (length work.old) (bytes_in pieces.now) job.old job.new result }
+    ensures none { NoJobIsMadeUp F.ops (length work.old) (bytes_in pieces.now) job.old job.new result }
     ensures wiped { work.new ≡ replicate (length work.old) 0 }
 {
     let joined = join_in::<F>(pieces, work, job);

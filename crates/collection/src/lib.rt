@@ -1,3 +1,4 @@
+#![tactic(auto)]
 // Collections of pieces, and the jobs that they bring back.
 mod back;
 mod book;

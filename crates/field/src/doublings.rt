@@ -35,10 +35,10 @@ pub trait Doubling {
 fn add_where<D: Doubling>(rows: &mut [u16], factors: &[u16], place: u32, row: &[u16])
     requires size { length rows.old ≡ length factors.now * length row.now }
     requires place { place < 16 }
-    requires sums { Codes arith.order rows.old }
-    requires codes { Codes arith.order row.now }
-    ensures codes { Codes arith.order rows.new }
-    ensures value { GainWhere arith place rows.old factors.now row.now rows.new }
+    requires sums { Codes D.arith.order rows.old }
+    requires codes { Codes D.arith.order row.now }
+    ensures codes { Codes D.arith.order rows.new }
+    ensures value { GainWhere D.arith place rows.old factors.now row.now rows.new }
 {
     let len = row.len();
     for r in 0..factors.len() {
@@ -53,11 +53,11 @@ fn add_where<D: Doubling>(rows: &mut [u16], factors: &[u16], place: u32, row: &[
 // the lowest up, and wiped then.
 pub fn spread<D: Doubling>(rows: &mut [u16], factors: &[u16], row: &mut [u16])
     requires size { length rows.old ≡ length factors.now * length row.old }
-    requires sums { Codes arith.order rows.old }
-    requires factors { Codes arith.order factors.now }
-    requires codes { Codes arith.order row.old }
-    ensures codes { Codes arith.order rows.new }
-    ensures value { GainMultiples arith rows.old factors.now row.old rows.new }
+    requires sums { Codes D.arith.order rows.old }
+    requires factors { Codes D.arith.order factors.now }
+    requires codes { Codes D.arith.order row.old }
+    ensures codes { Codes D.arith.order rows.new }
+    ensures value { GainMultiples D.arith rows.old factors.now row.old rows.new }
     ensures wiped { Wiped row.new }
 {
     let places = D::places();
@@ -72,10 +72,10 @@ pub fn spread<D: Doubling>(rows: &mut [u16], factors: &[u16], row: &mut [u16])
 fn gather<D: Doubling>(out: &mut [u16], rows: &[u16], factors: &[u16], place: u32)
     requires size { length rows.now ≡ length factors.now * length out.old }
     requires place { place < 16 }
-    requires sums { Codes arith.order out.old }
-    requires codes { Codes arith.order rows.now }
-    ensures codes { Codes arith.order out.new }
-    ensures value { Gathered arith place out.old rows.now factors.now out.new }
+    requires sums { Codes D.arith.order out.old }
+    requires codes { Codes D.arith.order rows.now }
+    ensures codes { Codes D.arith.order out.new }
+    ensures value { Gathered D.arith place out.old rows.now factors.now out.new }
 {
     let len = out.len();
     for r in 0..factors.len() {
@@ -90,10 +90,10 @@ fn gather<D: Doubling>(out: &mut [u16], rows: &[u16], factors: &[u16], place: u3
 // rows with that digit are added: one doubling for each digit, however many rows there are.
 pub fn combine<D: Doubling>(out: &mut [u16], rows: &[u16], factors: &[u16])
     requires size { length rows.now ≡ length factors.now * length out.old }
-    requires codes { Codes arith.order rows.now }
-    requires factors { Codes arith.order factors.now }
-    ensures codes { Codes arith.order out.new }
-    ensures value { Combined arith rows.now factors.now out.new }
+    requires codes { Codes D.arith.order rows.now }
+    requires factors { Codes D.arith.order factors.now }
+    ensures codes { Codes D.arith.order out.new }
+    ensures value { Combined D.arith rows.now factors.now out.new }
 {
     out.fill(0);
     let places = D::places();

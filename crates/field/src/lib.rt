@@ -1,3 +1,4 @@
+#![tactic(auto)]
 ghost use Rattle.std.specs.Prelude.{◌≡◌, ℕ, ◌*◌, ◌<◌, length};
 ghost use Rattle.field.specs.Laws.{Bounds, Codes, FieldLaws, Ops};
 ghost use Rattle.field.specs.Rows.{Combined, GainMultiples, Gains, GainsMultiple, Multiple, Wiped};
@@ -130,7 +131,7 @@ pub trait Field {
 
 // The code of a byte: every field has at least 256 codes.
 pub fn byte_code<F: Field>(byte: u8) -> u16
-    ensures code { result < ops.order }
+    ensures code { result < F.ops.order }
     ensures value { result ≡ byte }
 {
     byte as u16

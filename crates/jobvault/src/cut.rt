@@ -26,7 +26,7 @@ fn bytes<F: Field>(
     job: u16,
     stamp: u32,
 ) -> Result<Vec<u8>, Problem>
-    ensures piece { IfOk result (λ v. v.items ≡ piece ops layout.now.settings number job stamp (job_of layout.now)) }
+    ensures piece { IfOk result (λ v. v.items ≡ piece F.ops layout.now.settings number job stamp (job_of layout.now)) }
 {
     let mut buffer = [0u8; LONGEST];
     let length = layout.cut::<F>(number, job, stamp, &mut buffer)?;
@@ -39,7 +39,7 @@ fn each<F: Field>(
     layout: &Layout,
     options: &CutOptions,
 ) -> Result<Vec<Vec<u8>>, Problem>
-    ensures cuts { IfOk result (λ all. Cuts ops layout.now.settings options.now.job options.now.stamp (job_of layout.now) options.now.total all.items) }
+    ensures cuts { IfOk result (λ all. Cuts F.ops layout.now.settings options.now.job options.now.stamp (job_of layout.now) options.now.total all.items) }
 {
     let mut all = Vec::new(heap);
     for i in 0..options.total {

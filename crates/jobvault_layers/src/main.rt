@@ -1,3 +1,4 @@
+#![tactic(auto)]
 // The program jobvault: reads its words, carries out what they ask for, and says in one line why it could not.
 use std::env;
 

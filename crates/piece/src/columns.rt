@@ -15,8 +15,8 @@ use field::Field;
 // symbols of a column cut with Cauchy rows leave every element at every place possible, in exactly one way. Both hold
 // for every field. Answers how many they are.
 pub fn columns_stand<F: Field>() -> u8
-    ensures distance { Distance ops }
-    ensures hiding { Hiding ops }
+    ensures distance { Distance F.ops }
+    ensures hiding { Hiding F.ops }
     ensures count { result ≡ 2 }
 {
     2
@@ -57,8 +57,8 @@ fn numbers_differ(numbers: &[u8], n: u8) -> bool
 
 // Whether all symbols are codes.
 fn are_codes<F: Field>(symbols: &[u16]) -> bool
-    ensures yes { result ≡ true → Codes ops.order symbols.now }
-    ensures no { result ≡ false → Codes ops.order symbols.now → ⊥ }
+    ensures yes { result ≡ true → Codes F.ops.order symbols.now }
+    ensures no { result ≡ false → Codes F.ops.order symbols.now → ⊥ }
 {
     for i in 0..symbols.len() {
         if symbols[i] >= F::order() {
@@ -77,8 +77,8 @@ fn asked<F: Field>(
     value: u16,
     room: usize,
 ) -> bool
-    ensures yes { result ≡ true → InRange ops settings numbers.now symbols.now place value room }
-    ensures no { result ≡ false → InRange ops settings numbers.now symbols.now place value room → ⊥ }
+    ensures yes { result ≡ true → InRange F.ops settings numbers.now symbols.now place value room }
+    ensures no { result ≡ false → InRange F.ops settings numbers.now symbols.now place value room → ⊥ }
 {
     if !in_range(settings) {
         return false;
@@ -116,10 +116,10 @@ fn read_piece<F: Field>(row: &mut [u16], settings: Settings, number: u8, symbol:
     requires lawful { Lawful settings }
     requires least { 1 ≤ number }
     requires most { number ≤ settings.n }
-    requires code { symbol < ops.order }
+    requires code { symbol < F.ops.order }
     requires places { length row.old ≡ settings.m + 1 }
-    ensures codes { Codes ops.order row.new }
-    ensures entries { (j : ℕ) → j < settings.m → slice_index row.new j ≡ entry ops settings number j }
+    ensures codes { Codes F.ops.order row.new }
+    ensures entries { (j : ℕ) → j < settings.m → slice_index row.new j ≡ entry F.ops settings number j }
     ensures symbol { slice_index row.new settings.m ≡ symbol }
 {
     let m = settings.m as usize;
@@ -136,9 +136,9 @@ fn lay_system<F: Field>(
     place: usize,
     value: u16,
 )
-    requires asked { InRange ops settings numbers.now symbols.now place value settings.m }
+    requires asked { InRange F.ops settings numbers.now symbols.now place value settings.m }
     requires size { length grid.old ≡ settings.m * (settings.m + 1) }
-    ensures { System ops settings numbers.now symbols.now place value grid.new }
+    ensures { System F.ops settings numbers.now symbols.now place value grid.new }
 {
     let w = settings.m as usize + 1;
     read_place(&mut grid[0..w], place, value);
@@ -172,11 +172,11 @@ fn find<F: Field>(
     factors: &mut [u16],
     row: &mut [u16],
 )
-    requires asked { InRange ops settings numbers.now symbols.now place value (length column.old) }
+    requires asked { InRange F.ops settings numbers.now symbols.now place value (length column.old) }
     requires size { length grid.old ≡ settings.m * (settings.m + 1) }
     requires factors { length factors.old ≡ settings.m }
     requires row { length row.old ≡ settings.m + 1 }
-    ensures { Candidate ops settings numbers.now symbols.now place value column.new }
+    ensures { Candidate F.ops settings numbers.now symbols.now place value column.new }
 {
     lay_system::<F>(grid, settings, numbers, symbols, place, value);
     eliminate::<F>(grid, factors, row);
@@ -194,9 +194,9 @@ pub fn candidate<F: Field>(
     value: u16,
     column: &mut [u16],
 ) -> bool
-    ensures asked { result ≡ true → InRange ops settings numbers.now symbols.now place value (length column.old) }
-    ensures refused { result ≡ false → InRange ops settings numbers.now symbols.now place value (length column.old) → ⊥ }
-    ensures fits { result ≡ true → Candidate ops settings numbers.now symbols.now place value column.new }
+    ensures asked { result ≡ true → InRange F.ops settings numbers.now symbols.now place value (length column.old) }
+    ensures refused { result ≡ false → InRange F.ops settings numbers.now symbols.now place value (length column.old) → ⊥ }
+    ensures fits { result ≡ true → Candidate F.ops settings numbers.now symbols.now place value column.new }
     ensures kept { result ≡ false → column.new ≡ column.old }
 {
     if !asked::<F>(settings, numbers, symbols, place, value, column.len()) {

@@ -9,9 +9,9 @@ use field::Field;
 
 // The powers of a point: 1, the point, its square and so on.
 fn powers<F: Field>(factors: &mut [u16], point: u16)
-    requires { point < ops.order }
-    ensures codes { Codes ops.order factors.new }
-    ensures value { (j : ℕ) → j < length factors.old → slice_index factors.new j ≡ power ops point j }
+    requires { point < F.ops.order }
+    ensures codes { Codes F.ops.order factors.new }
+    ensures value { (j : ℕ) → j < length factors.old → slice_index factors.new j ≡ power F.ops point j }
 {
     let mut p = 1;
     for j in 0..factors.len() {
@@ -22,11 +22,11 @@ fn powers<F: Field>(factors: &mut [u16], point: u16)
 
 // The inverses of a point minus the elements coded 0, 1, 2 and so on.
 fn inverses<F: Field>(factors: &mut [u16], point: u16)
-    requires point { point < ops.order }
+    requires point { point < F.ops.order }
     requires few { length factors.old ≤ 16 }
-    requires places { length factors.old ≤ ops.order }
-    ensures codes { Codes ops.order factors.new }
-    ensures value { (j : ℕ) → j < length factors.old → slice_index factors.new j ≡ ops.inv (ops.add point (ops.neg j)) }
+    requires places { length factors.old ≤ F.ops.order }
+    ensures codes { Codes F.ops.order factors.new }
+    ensures value { (j : ℕ) → j < length factors.old → slice_index factors.new j ≡ F.ops.inv (F.ops.add point (F.ops.neg j)) }
 {
     for j in 0..factors.len() {
         let opposite = F::neg(j as u16);
@@ -41,8 +41,8 @@ pub fn entries<F: Field>(factors: &mut [u16], settings: Settings, number: u8)
     requires least { 1 ≤ number }
     requires most { number ≤ settings.n }
     requires places { length factors.old ≡ settings.m }
-    ensures codes { Codes ops.order factors.new }
-    ensures value { (j : ℕ) → j < settings.m → slice_index factors.new j ≡ entry ops settings number j }
+    ensures codes { Codes F.ops.order factors.new }
+    ensures value { (j : ℕ) → j < settings.m → slice_index factors.new j ≡ entry F.ops settings number j }
 {
     if settings.rows == 0 {
         powers::<F>(factors, number as u16);

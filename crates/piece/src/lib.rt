@@ -1,3 +1,4 @@
+#![tactic(auto)]
 // Pieces of a job: settings, cutting and reading.
 pub mod bits;
 pub mod columns;

@@ -61,7 +61,7 @@ fn check_body<F: Field>(header: &Header, body: &[u8]) -> Result<(), ReadFault>
     requires some { 1 ≤ header.now.settings.m }
     requires few { header.now.settings.m ≤ 16 }
     requires short { header.now.length ≤ 4096 }
-    ensures { MatchResult result (λ _. GoodBody ops (count header.now) body.now) (λ f. BadBody ops (count header.now) body.now f) }
+    ensures { MatchResult result (λ _. GoodBody F.ops (count header.now) body.now) (λ f. BadBody F.ops (count header.now) body.now f) }
 {
     let count = columns(header);
     let needs = (count * F::width() as usize + 7) / 8;
@@ -78,7 +78,7 @@ fn check_body<F: Field>(header: &Header, body: &[u8]) -> Result<(), ReadFault>
 // Reads a piece of the field F: any bytes are accepted as a header with a lawful body, or refused for the first reason
 // that applies.
 pub fn read<F: Field>(piece: &[u8]) -> Result<Piece<'_>, ReadFault>
-    ensures { MatchResult result (λ p. Accepts ops piece.now × (p.header ≡ header_in piece.now) × (p.body.now ≡ drop 10 piece.now)) (λ f. Refuses ops piece.now f) }
+    ensures { MatchResult result (λ p. Accepts F.ops piece.now × (p.header ≡ header_in piece.now) × (p.body.now ≡ drop 10 piece.now)) (λ f. Refuses F.ops piece.now f) }
 {
     let [a, b, c, d, e, f, g, h, i, j, body @ ..] = piece else {
         return Err(ReadFault::Short {
@@ -107,8 +107,8 @@ pub fn read<F: Field>(piece: &[u8]) -> Result<Piece<'_>, ReadFault>
 // The reader accepts exactly the bytes that are some header with a lawful body, and reads back what was cut: for every
 // field. Answers how many statements there are.
 pub fn reading_stands<F: Field>() -> u8
-    ensures exact { ReaderExact ops }
-    ensures back { ReadsBackWhole ops }
+    ensures exact { ReaderExact F.ops }
+    ensures back { ReadsBackWhole F.ops }
     ensures number { result ≡ 2 }
 {
     2

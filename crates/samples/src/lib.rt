@@ -1,3 +1,4 @@
+#![tactic(auto)]
 // Examples of the libraries at work, proved and run.
 #[cfg(test)]
 mod plain;

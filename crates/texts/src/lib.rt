@@ -1,3 +1,4 @@
+#![tactic(auto)]
 // What the program says, in words and numbers.
 pub mod cells;
 pub mod cut_text;

@@ -1,3 +1,4 @@
+#![tactic(auto)]
 // The words of the command line: what a user may write, and what is asked for by it.
 pub mod asking;
 pub mod code;

@@ -43,8 +43,8 @@ fn value_at(body: &[u8], width: u32, column: usize, values: &mut [u16]) -> u16
 
 // The symbol of a column, if the body has it.
 fn symbol<F: Field>(body: &[u8], column: usize) -> Option<u16>
-    ensures cases { MatchOption result ((4096 ≤ column) ⊎ (length body.now < bytes_for ops.width (column + 1))) (λ v. v ≡ value_in ops.width body.now column) }
-    ensures within { OnSome result (bytes_for ops.width (column + 1) ≤ length body.now) }
+    ensures cases { MatchOption result ((4096 ≤ column) ⊎ (length body.now < bytes_for F.ops.width (column + 1))) (λ v. v ≡ value_in F.ops.width body.now column) }
+    ensures within { OnSome result (bytes_for F.ops.width (column + 1) ≤ length body.now) }
 {
     if column >= MOST {
         return None;

@@ -1,3 +1,4 @@
+#![tactic(auto)]
 // What the verbs work out, on values: no file is read or written and nothing is printed here.
 pub mod candidates;
 pub mod cut;

@@ -35,7 +35,7 @@ fn field_of(bytes: &[u8]) -> FieldName
 
 // The bytes read as a piece of the field F, of this name.
 fn of_field<F: Field>(field: FieldName, bytes: &[u8]) -> Result<Opened<'_>, ReadFault>
-    ensures { MatchResult result (λ p. (p.field ≡ field) × Accepts ops bytes.now × (p.header ≡ header_in bytes.now) × (p.body.now ≡ drop 10 bytes.now)) (λ f. Refuses ops bytes.now f) }
+    ensures { MatchResult result (λ p. (p.field ≡ field) × Accepts F.ops bytes.now × (p.header ≡ header_in bytes.now) × (p.body.now ≡ drop 10 bytes.now)) (λ f. Refuses F.ops bytes.now f) }
 {
     match read::read::<F>(bytes) {
         Ok(piece) => Ok(Opened {

@@ -41,7 +41,7 @@ fn finds_no_header(fault: &ReadFault) -> bool
 impl Book {
     // The book of a collection that has no piece, for the field F.
     pub fn start<F: Field>() -> Book
-        ensures field { For ops result.field }
+        ensures field { For F.ops result.field }
         ensures first { result.first ≡ blank }
         ensures none { result.have ≡ 0 }
     {
@@ -122,8 +122,8 @@ impl Book {
 
     // Whether the collection is for the field F.
     pub fn is_for<F: Field>(&self) -> bool
-        ensures yes { result ≡ true → For ops self.now.field }
-        ensures no { result ≡ false → For ops self.now.field → ⊥ }
+        ensures yes { result ≡ true → For F.ops self.now.field }
+        ensures no { result ≡ false → For F.ops self.now.field → ⊥ }
     {
         self.field.code == F::code()
             && self.field.order == F::order()
@@ -168,8 +168,8 @@ impl Book {
     // Why a piece is refused by a collection for another field: the reader's refusal, where there is no header of the
     // field F, or else that the field is another.
     fn other_field<F: Field>(&self, bytes: &[u8]) -> AddFault
-        requires { For ops self.now.field → ⊥ }
-        ensures { (work : List ℕ) → 4623 ≤ length work → RefusesPiece ops (in_open self.now work) bytes.now result }
+        requires { For F.ops self.now.field → ⊥ }
+        ensures { (work : List ℕ) → 4623 ≤ length work → RefusesPiece F.ops (in_open self.now work) bytes.now result }
     {
         let has = self.field;
         match read::<F>(bytes) {
@@ -186,8 +186,8 @@ impl Book {
 
     // Reads a piece that may follow those that were taken.
     pub fn admit<'a, F: Field>(&self, bytes: &'a [u8]) -> Result<Piece<'a>, AddFault>
-        ensures { MatchResult result (λ p. For ops self.now.field × Accepts ops bytes.now × Follows self.now (header_in bytes.now) × (p.header ≡ header_in bytes.now) × (p.body.now ≡ drop 10 bytes.now))
-            (λ f. (work : List ℕ) → 4623 ≤ length work → RefusesPiece ops (in_open self.now work) bytes.now f) }
+        ensures { MatchResult result (λ p. For F.ops self.now.field × Accepts F.ops bytes.now × Follows self.now (header_in bytes.now) × (p.header ≡ header_in bytes.now) × (p.body.now ≡ drop 10 bytes.now))
+            (λ f. (work : List ℕ) → 4623 ≤ length work → RefusesPiece F.ops (in_open self.now work) bytes.now f) }
     {
         if !self.is_for::<F>() {
             return Err(self.other_field::<F>(bytes));

@@ -11,7 +11,7 @@ use field::Field;
 impl<'w> Closed<'w> {
     // Whether the collection can be handed over into this buffer.
     pub fn can_hand_over<F: Field>(&self, job: &[u8]) -> Result<(), HandOverFault>
-        ensures { MatchResult result (λ _. HandsOver ops (closed_of ops self.now) (length job.now)) (λ f. RefusesHandOver ops (closed_of ops self.now) (length job.now) f) }
+        ensures { MatchResult result (λ _. HandsOver F.ops (closed_of F.ops self.now) (length job.now)) (λ f. RefusesHandOver F.ops (closed_of F.ops self.now) (length job.now) f) }
     {
         let book = self.book;
         if !book.is_for::<F>() {
@@ -31,8 +31,8 @@ impl<'w> Closed<'w> {
     // Hands the job over: writes it to the front of the buffer, leaves the rest alone and answers its length. The work is
     // all zeros then.
     pub fn hand_over<F: Field>(self, job: &mut [u8]) -> usize
-        requires { HandsOver ops (closed_of ops self) (length job.old) }
-        ensures handed { Handed ops (closed_of ops self.entry) job.old job.new result }
+        requires { HandsOver F.ops (closed_of F.ops self) (length job.old) }
+        ensures handed { Handed F.ops (closed_of F.ops self.entry) job.old job.new result }
         ensures wiped { self.exit.0.now ≡ replicate (length self.entry.work.now) 0 }
     {
         let Closed { work, book } = self;

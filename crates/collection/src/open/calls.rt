@@ -33,7 +33,7 @@ impl<'w> Open<'w> {
     // A collection for the field F that has no piece. It keeps the work until it ends.
     pub fn start<F: Field>(work: &'w mut [u16]) -> Open<'w>
         ensures named { result.work.ghost_name ≡ work.entry.ghost_name }
-        ensures fresh { opened result ≡ fresh ops (length work.old) }
+        ensures fresh { opened result ≡ fresh F.ops (length work.old) }
     {
         Open {
             work,
@@ -59,16 +59,16 @@ impl<'w> Open<'w> {
     // Takes a piece that was admitted; symbols is scratch for its symbols, and wiped.
     fn take<F: Field>(&mut self, header: &Header, body: &[u8], symbols: &mut [u16])
         requires room { 4623 ≤ length self.old.work.now }
-        requires field { For ops self.old.book.field }
+        requires field { For F.ops self.old.book.field }
         requires follows { Follows self.old.book header.now }
         requires lawful { Lawful header.now.settings }
         requires least { 1 ≤ header.now.number }
         requires most { header.now.number ≤ header.now.settings.n }
         requires short { header.now.length ≤ 4096 }
-        requires body { GoodBody ops (count header.now) body.now }
+        requires body { GoodBody F.ops (count header.now) body.now }
         requires symbols { length symbols.old ≡ count header.now }
         ensures named { self.new.work.ghost_name ≡ self.old.work.ghost_name }
-        ensures taken { opened self.new ≡ with_piece (opened self.old) (taking ops header.now body.now) }
+        ensures taken { opened self.new ≡ with_piece (opened self.old) (taking F.ops header.now body.now) }
         ensures wiped { Wiped symbols.new }
     {
         let m = header.settings.m as usize;
@@ -83,8 +83,8 @@ impl<'w> Open<'w> {
     pub fn add<F: Field>(&mut self, piece: &[u8]) -> Result<(), AddFault>
         ensures named { self.new.work.ghost_name ≡ self.old.work.ghost_name }
         ensures bytes { Bytes piece.now }
-        ensures answer { MatchResult result (λ _. Takes ops (opened self.old) piece.now) (λ f. RefusesPiece ops (opened self.old) piece.now f) }
-        ensures after { MatchResult result (λ _. opened self.new ≡ with_piece (opened self.old) (read_of ops piece.now)) (λ _. opened self.new ≡ opened self.old) }
+        ensures answer { MatchResult result (λ _. Takes F.ops (opened self.old) piece.now) (λ f. RefusesPiece F.ops (opened self.old) piece.now f) }
+        ensures after { MatchResult result (λ _. opened self.new ≡ with_piece (opened self.old) (read_of F.ops piece.now)) (λ _. opened self.new ≡ opened self.old) }
     {
         let has = self.work.len();
         if has < WORK {
@@ -100,7 +100,7 @@ impl<'w> Open<'w> {
 
     // Whether the collection can be closed.
     pub fn can_close<F: Field>(&self) -> Result<(), CloseFault>
-        ensures { MatchResult result (λ _. Closes ops (opened self.now)) (λ f. RefusesClose ops (opened self.now) f) }
+        ensures { MatchResult result (λ _. Closes F.ops (opened self.now)) (λ f. RefusesClose F.ops (opened self.now) f) }
     {
         let book = self.book;
         if !book.is_for::<F>() {
@@ -116,9 +116,9 @@ impl<'w> Open<'w> {
 
     // Closes a collection that can be closed: brings the symbols of the job back.
     pub fn close<F: Field>(self) -> Closed<'w>
-        requires { Closes ops (opened self) }
+        requires { Closes F.ops (opened self) }
         ensures named { result.work.ghost_name ≡ self.entry.work.ghost_name }
-        ensures same { closed_of ops result ≡ opened self.entry }
+        ensures same { closed_of F.ops result ≡ opened self.entry }
     {
         let Open { work, book } = self;
         let m = book.needs() as usize;

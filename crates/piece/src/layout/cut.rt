@@ -54,7 +54,7 @@ fn lay_out(cells: &mut [u16], job: &[u8], m: usize, columns: usize)
 // The bytes of a piece with so many columns.
 fn size<F: Field>(columns: usize) -> usize
     requires { columns ≤ 4096 }
-    ensures { result ≡ size ops columns }
+    ensures { result ≡ size F.ops columns }
 {
     10 + (columns * F::width() as usize + 7) / 8
 }
@@ -93,8 +93,8 @@ impl Layout {
         requires most { number ≤ self.now.settings.n }
         requires columns { length values.old ≡ self.now.columns }
         requires places { length factors.old ≡ self.now.settings.m }
-        ensures codes { Codes ops.order values.new }
-        ensures value { (k : ℕ) → k < length values.new → slice_index values.new k ≡ value ops self.now.settings (job_of self.now) number k }
+        ensures codes { Codes F.ops.order values.new }
+        ensures value { (k : ℕ) → k < length values.new → slice_index values.new k ≡ value F.ops self.now.settings (job_of self.now) number k }
     {
         let all = self.settings.m as usize * self.columns;
         entries::<F>(factors, self.settings, number);
@@ -110,8 +110,8 @@ impl Layout {
         stamp: u32,
         out: &mut [u8],
     ) -> Result<usize, CutFault>
-        ensures answer { result ≡ cutting ops self.now.settings (job_of self.now) number (length out.old) }
-        ensures bytes { out.new ≡ written result (piece ops self.now.settings number job_number stamp (job_of self.now)) out.old }
+        ensures answer { result ≡ cutting F.ops self.now.settings (job_of self.now) number (length out.old) }
+        ensures bytes { out.new ≡ written result (piece F.ops self.now.settings number job_number stamp (job_of self.now)) out.old }
     {
         let n = self.settings.n;
         if number < 1 || number > n {
@@ -149,10 +149,10 @@ impl Layout {
     )
         requires least { 1 ≤ number }
         requires most { number ≤ self.now.settings.n }
-        requires room { size ops self.now.columns ≤ length out.old }
+        requires room { size F.ops self.now.columns ≤ length out.old }
         requires columns { length values.old ≡ self.now.columns }
         requires places { length factors.old ≡ self.now.settings.m }
-        ensures { out.new ≡ piece ops self.now.settings number job_number stamp (job_of self.now) ++ drop (size ops self.now.columns) out.old }
+        ensures { out.new ≡ piece F.ops self.now.settings number job_number stamp (job_of self.now) ++ drop (size F.ops self.now.columns) out.old }
     {
         self.values::<F>(values, number, factors);
         write_header(
@@ -177,8 +177,8 @@ pub fn cut<F: Field>(
     job: &[u8],
     out: &mut [u8],
 ) -> Result<usize, CutFault>
-    ensures answer { result ≡ cutting ops settings job.now number (length out.old) }
-    ensures bytes { out.new ≡ written result (piece ops settings number job_number stamp job.now) out.old }
+    ensures answer { result ≡ cutting F.ops settings job.now number (length out.old) }
+    ensures bytes { out.new ≡ written result (piece F.ops settings number job_number stamp job.now) out.old }
 {
     let layout = Layout::new(settings, job)?;
     layout.cut::<F>(number, job_number, stamp, out)
