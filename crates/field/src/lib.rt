@@ -1,4 +1,5 @@
 #![tactic(auto)]
+
 ghost use Rattle.std.specs.Prelude.{◌≡◌, ℕ, ◌*◌, ◌<◌, length};
 ghost use Rattle.field.specs.Laws.{Bounds, Codes, FieldLaws, Ops};
 ghost use Rattle.field.specs.Rows.{Combined, GainMultiples, Gains, GainsMultiple, Multiple, Wiped};

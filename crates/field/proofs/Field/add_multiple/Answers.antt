@@ -5,7 +5,7 @@ use Rattle.field.proofs.Field.add_multiple.Goals as goal
 pub returns : goal.returns
 returns g c = record {
   codes = c.spread.ensures.codes;
-  value = one_row g.Self.Field.ops c.args.c c.args.out.now c.args.row.now c.copy-from-slice.new.self c.spread.new.rows
-      c.copy-from-slice.ensures.after c.requires.lengths c.spread.ensures.value;
+  value = one_row g.Self.Field.ops c.args.c c.args.out.now c.args.row.now c.copy_from_slice.new.self c.spread.new.rows
+      c.copy_from_slice.ensures.after c.requires.lengths c.spread.ensures.value;
   wiped = c.spread.ensures.wiped;
 }

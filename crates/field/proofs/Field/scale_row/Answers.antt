@@ -9,7 +9,7 @@ returns g c =
     record {
       codes = c.spread.ensures.codes;
       value = from_zeros g.met.Self.Field.laws c.args.c c.fill.new.self c.args.row.now c.spread.new.rows c.requires.factor c.requires.codes size zeros
-          (one_row g.Self.Field.ops c.args.c c.fill.new.self c.args.row.now c.copy-from-slice.new.self c.spread.new.rows
-          c.copy-from-slice.ensures.after (sym size) c.spread.ensures.value);
+          (one_row g.Self.Field.ops c.args.c c.fill.new.self c.args.row.now c.copy_from_slice.new.self c.spread.new.rows
+          c.copy_from_slice.ensures.after (sym size) c.spread.ensures.value);
       wiped = c.spread.ensures.wiped;
     }

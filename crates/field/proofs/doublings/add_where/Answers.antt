@@ -43,13 +43,13 @@ loop-r-preserved g c =
     let size = part_length c.loop-r.rows a n room in
     elim c.if-factors-r-eq1.branch [
       | then-factors-r-eq1 w ↦
-          let len : length w.plus-row.new.out ≡ n = w.plus-row.auto.out ∙ size in
+          let len : length w.plus_row.new.out ≡ n = w.plus_row.auto.out ∙ size in
           rw w.rows-is (
-            put_length c.loop-r.rows w.plus-row.new.out a n room len ∙ c.loop-r.invariant.0,
-            put_codes c.loop-r.rows w.plus-row.new.out a n room len g.D.Doubling.arith.order c.loop-r.invariant.1 w.plus-row.ensures.codes,
+            put_length c.loop-r.rows w.plus_row.new.out a n room len ∙ c.loop-r.invariant.0,
+            put_codes c.loop-r.rows w.plus_row.new.out a n room len g.D.Doubling.arith.order c.loop-r.invariant.1 w.plus_row.ensures.codes,
             gained_set g.D.Doubling.arith (λ r. get_or c.args.factors.now r 0 / 2 ^ c.args.place % 2) c.args.row.now c.args.rows.now c.loop-r.rows c.loop-r.r c.loop-r.invariant.2
-                w.plus-row.new.out room len w.if-factors-r-eq1.true
-                (λ k l. w.plus-row.ensures.value k (subst (λ (m : ℕ). k < m) (sym size) l) ∙ ap (λ (x : ℕ). g.D.Doubling.arith.add x (get_or c.args.row.now k 0)) (part_at c.loop-r.rows a n k l)),
+                w.plus_row.new.out room len w.if-factors-r-eq1.true
+                (λ k l. w.plus_row.ensures.value k (subst (λ (m : ℕ). k < m) (sym size) l) ∙ ap (λ (x : ℕ). g.D.Doubling.arith.add x (get_or c.args.row.now k 0)) (part_at c.loop-r.rows a n k l)),
           )
       | else-factors-r-eq1 w ↦
           rw w.rows-is (

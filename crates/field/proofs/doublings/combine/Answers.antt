@@ -19,11 +19,11 @@ double-row-requires g c = c.loop-step.invariant.0
 
 pub gather-requires : goal.gather-requires
 gather-requires g c =
-    let e : length c.double-row.new.row ≡ length c.args.out.now = omega (arith, c.fill.ensures.len) in
+    let e : length c.double_row.new.row ≡ length c.args.out.now = omega (arith, c.fill.ensures.len) in
     record {
       size = rw e c.requires.size;
       place = omega (arith, g.met.D.Doubling.digits.width_most, c.places-places.ensures);
-      sums = c.double-row.ensures.codes;
+      sums = c.double_row.ensures.codes;
       codes = c.requires.codes;
     }
 
@@ -31,13 +31,13 @@ pub loop-step-preserved : goal.loop-step-preserved
 loop-step-preserved g c =
     let w : ℕ = length c.fill.new.self in
     let e : length c.fill.new.self ≡ length c.args.out.now = c.fill.ensures.len in
-    let d : length c.double-row.new.row ≡ w = omega arith in
+    let d : length c.double_row.new.row ≡ w = omega arith in
     let size : length c.args.rows.now ≡ length c.args.factors.now * w = rw e c.requires.size in (
       c.gather.ensures.codes,
       done_next g.met.D.Doubling.laws c.args.rows.now c.args.factors.now w c.requires.factors c.requires.codes size g.met.D.Doubling.digits
-          c.places-places.result c.loop-step.step c.loop-step.out c.double-row.new.row c.gather.new.out c.loop-step-test.true c.loop-step.invariant.1
-          (λ k h. c.double-row.ensures.value k (omega arith))
-          (λ k h. subst (λ (v : ℕ). get_or c.gather.new.out k 0 ≡ gained_all g.D.Doubling.arith (length c.args.factors.now) (λ j. get_or c.args.factors.now j 0 / 2 ^ (c.places-places.result - 1 - c.loop-step.step) % 2) (λ j. get_or c.args.rows.now (j * v + k) 0) (get_or c.double-row.new.row k 0)) d
+          c.places-places.result c.loop-step.step c.loop-step.out c.double_row.new.row c.gather.new.out c.loop-step-test.true c.loop-step.invariant.1
+          (λ k h. c.double_row.ensures.value k (omega arith))
+          (λ k h. subst (λ (v : ℕ). get_or c.gather.new.out k 0 ≡ gained_all g.D.Doubling.arith (length c.args.factors.now) (λ j. get_or c.args.factors.now j 0 / 2 ^ (c.places-places.result - 1 - c.loop-step.step) % 2) (λ j. get_or c.args.rows.now (j * v + k) 0) (get_or c.double_row.new.row k 0)) d
           (c.gather.ensures.value k (omega arith))),
     )
 

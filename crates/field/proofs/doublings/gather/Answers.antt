@@ -43,10 +43,10 @@ loop-r-preserved g c =
     elim c.if-factors-r-eq1.branch [
       | then-factors-r-eq1 w ↦
           rw w.out-is (
-            w.plus-row.ensures.codes,
+            w.plus_row.ensures.codes,
             gathered_set g.D.Doubling.arith d c.args.rows.now c.args.out.now c.loop-r.out c.loop-r.r c.loop-r.invariant.1
-                w.plus-row.new.out w.if-factors-r-eq1.true
-                (λ k l. w.plus-row.ensures.value k (omega arith) ∙ ap (g.D.Doubling.arith.add (get_or c.loop-r.out k 0)) (part_at c.args.rows.now a n k l)),
+                w.plus_row.new.out w.if-factors-r-eq1.true
+                (λ k l. w.plus_row.ensures.value k (omega arith) ∙ ap (g.D.Doubling.arith.add (get_or c.loop-r.out k 0)) (part_at c.args.rows.now a n k l)),
           )
       | else-factors-r-eq1 w ↦
           rw w.out-is (

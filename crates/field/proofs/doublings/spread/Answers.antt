@@ -39,17 +39,17 @@ pub loop-place-preserved : goal.loop-place-preserved
 loop-place-preserved g c =
     let K = g.D.Doubling.arith in
     let e : length c.loop-place.row ≡ length c.args.row.now = c.loop-place.auto.row in (
-      c.add-where.ensures.codes,
-      c.double-row.ensures.codes,
+      c.add_where.ensures.codes,
+      c.double_row.ensures.codes,
       λ i h.
           let l : i < length c.args.factors.now * length c.args.row.now = omega arith in
           let p = place_within i (length c.args.factors.now) (length c.args.row.now) l in
           let w : ℕ = length c.args.row.now in
           left_next K c.places-places.result c.loop-place.place (get_or c.args.factors.now (i / w) 0) (get_or c.loop-place.rows i 0) (get_or c.loop-place.row (i % w) 0) _ _ _
           c.loop-place-test.true (c.loop-place.invariant.2 i h)
-          (c.add-where.ensures.value i (omega arith)
+          (c.add_where.ensures.value i (omega arith)
           ∙ ap (λ (v : ℕ). gained K (get_or c.args.factors.now (i / v) 0 / 2 ^ c.loop-place.place % 2) (get_or c.loop-place.rows i 0) (get_or c.loop-place.row (i % v) 0)) e)
-          (c.double-row.ensures.value (i % w) (omega arith)),
+          (c.double_row.ensures.value (i % w) (omega arith)),
     )
 
 pub returns : goal.returns

@@ -10,7 +10,7 @@ loop-k-preserved c = (
       (let lt : c.loop-k.k < length c.loop-k.row = omega arith in
       let here = c.loop-k.invariant.1 c.loop-k.k (omega arith) in
       let code : get_or c.args.row.now c.loop-k.k 0 < 256 = c.requires c.loop-k.k (omega arith) in
-      rw get_or-set_same (c.times-x.ensures ∙ ap xtime here ∙ two_times (get_or c.args.row.now c.loop-k.k 0) code)),
+      rw get_or-set_same (c.times_x.ensures ∙ ap xtime here ∙ two_times (get_or c.args.row.now c.loop-k.k 0) code)),
   λ i h. let ne : i ≢ c.loop-k.k = omega arith in rw get_or-set_other (c.loop-k.invariant.1 i (omega arith)),
 )
 
