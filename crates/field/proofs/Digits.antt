@@ -1,8 +1,6 @@
 -- Multiples by the digits of the factor, from the lowest up. Assumes nothing.
-use Rattle.std.proofs.Common.{◌≡◌, ℕ, zero, suc, ◌+◌, ◌-◌, ◌*◌, ◌/◌, ◌%◌, ◌^◌, ◌<◌, ◌≤◌, Bool, true, false, cond, eqb, sym, refl, ap, ◌∙◌, subst, ap₂, add-one, arith, shr-shr, shr_lt}
-use native.Mathlib.Nat.{div-eq_of_lt}
+use Rattle.std.proofs.Common.{◌≡◌, ℕ, zero, suc, ◌+◌, ◌-◌, ◌/◌, ◌%◌, ◌^◌, ◌<◌, ◌≤◌, sym, ap, ◌∙◌, subst, ap₂, add-one, arith, shr-shr, shr_lt}
 use lib.Arith.{lt-one}
-use lib.Pow.{shr_le}
 use Rattle.field.specs.Laws.{Ops, FieldLaws}
 use Rattle.field.specs.Digits.{Digits, gained}
 

@@ -1,5 +1,5 @@
 -- The product of GF(2^8) is the one remainder of the carry-less product, and sums worked by hand. Assumes nothing.
-use Rattle.std.proofs.Common.{◌≡◌, ℕ, zero, suc, ◌*◌, ◌/◌, ◌%◌, ◌^◌, ◌<◌, Bool, true, false, cond, T, eqb, ltb, List, [], ◌∷◌, sym, refl, ap, ◌∙◌, subst, ap₂, mod-lt, add-one, lit<, eqb→eq, lt-ltb}
+use Rattle.std.proofs.Common.{◌≡◌, ℕ, zero, suc, ◌*◌, ◌/◌, ◌%◌, ◌^◌, ◌<◌, Bool, true, cond, T, eqb, ltb, List, [], ◌∷◌, sym, refl, ap, ◌∙◌, subst, ap₂, mod-lt, add-one, lit<, eqb→eq, lt-ltb}
 use lib.Pow.{field, mod-mod-pow}
 use lib.Bits.{bit_xor, xor_assoc, xor_comm, xor_lt, xor_mod, xor_self, xor_shr, xor_zero_l, xor_zero_r}
 use Rattle.field.specs.Search.{found}

@@ -1,7 +1,6 @@
 -- Rows in one list, one behind the other. Assumes nothing.
-use Rattle.std.proofs.Common.{◌≡◌, ℕ, zero, suc, ◌+◌, ◌-◌, ◌*◌, ◌/◌, ◌%◌, ◌<◌, ◌≤◌, List, [], ◌∷◌, length, get_or, sym, refl, ap, ◌∙◌, subst, ap₂, mul-le-mul_right, mod-lt, mod-eq_of_lt, suc-mul, div-lt_iff_lt-mul, mul-zero, arith}
+use Rattle.std.proofs.Common.{◌≡◌, ℕ, zero, suc, ◌+◌, ◌*◌, ◌/◌, ◌%◌, ◌<◌, ◌≤◌, List, [], ◌∷◌, length, get_or, sym, ap, ◌∙◌, subst, ap₂, mul-le-mul_right, mod-lt, mod-eq_of_lt, suc-mul, div-lt_iff_lt-mul, mul-zero, arith}
 use native.Mathlib.Nat.{div-eq_of_lt}
-use lib.Arith.{digits_lt, digits_div, digits_mod}
 use Rattle.field.specs.Laws.{Ops, FieldLaws, Codes}
 use Rattle.field.specs.Rows.{GainMultiples, GainsMultiple, Multiple}
 use Rattle.field.proofs.Digits.{zero_add}

@@ -1,6 +1,6 @@
 -- A rule of every number below n, proved by one test that antt computes. Assumes nothing.
-use Rattle.std.specs.Prelude.{◌≡◌, ℕ, zero, suc, ◌<◌, Bool, true, false, T, ◌⊎◌}
-use Rattle.std.proofs.Common.{subst, sym, inl, inr, not-suc-le-zero, arith}
+use Rattle.std.specs.Prelude.{ℕ, zero, suc, ◌<◌, Bool, true, false, T}
+use Rattle.std.proofs.Common.{subst, sym, not-suc-le-zero, arith}
 use Rattle.std.proofs.Math.Decide.{ℕ_discrete}
 
 abbrev pub both : Bool → Bool → Bool

@@ -4,7 +4,7 @@ use Rattle.std.proofs.Common.{sym, ap, ◌∙◌, subst, not-suc-le-zero, arith,
 use Rattle.std.proofs.Math.Decide.{ℕ_discrete}
 use Rattle.field.specs.Laws.{Ops, FieldLaws}
 use Rattle.field.specs.Search.{found}
-use Rattle.field.specs.Every.{both, both_left, both_right, every, at}
+use Rattle.field.specs.Every.{both, both_left, both_right}
 
 below_step : (b : Bool) (n f : ℕ) → f < suc n → cond b n f < suc n
 below_step true n f h = omega arith

@@ -1,5 +1,5 @@
 -- What a field on the codes 0 .. order - 1 is: 0 is its zero, 1 its one. Assumes nothing.
-use Rattle.std.specs.Prelude.{◌≡◌, ℕ, ◌/◌, ◌%◌, ◌^◌, ◌<◌, ◌≤◌, ◌≢◌, List, length, slice_index}
+use Rattle.std.specs.Prelude.{◌≡◌, ℕ, ◌^◌, ◌<◌, ◌≤◌, ◌≢◌, List, length, slice_index}
 
 -- the numbers and the operations of a field; elements are given by their codes
 pub record Ops : Type 0 where

@@ -1,6 +1,6 @@
 -- The integers modulo 257 are a field. Assumes nothing.
-use Rattle.std.specs.Prelude.{◌≡◌, ℕ, zero, suc, ◌+◌, ◌-◌, ◌*◌, ◌%◌, ◌<◌, Bool, true, false, T, List, [], ◌∷◌, nat_eq, slice_index_or, refl}
-use Rattle.std.proofs.Common.{sym, ap, ◌∙◌, mod-lt, mod-eq_of_lt, add_assoc, add_comm, add-zero, mul_assoc, mul_comm, mul-one, mul-add, arith, eqb→eq, ltb→lt, lit<, lit≤}
+use Rattle.std.specs.Prelude.{◌≡◌, ℕ, ◌+◌, ◌-◌, ◌*◌, ◌%◌, ◌<◌, T, List, [], ◌∷◌, nat_eq, slice_index_or, refl}
+use Rattle.std.proofs.Common.{sym, ap, ◌∙◌, mod-lt, mod-eq_of_lt, add_assoc, add_comm, add-zero, mul_assoc, mul_comm, mul-one, mul-add, arith, lit<, lit≤}
 use Rattle.std.proofs.Math.Nat.{mod-add-mod, add-mod-mod, add-mod}
 use Rattle.field.specs.Laws.{FieldLaws, Bounds}
 use Rattle.field.specs.Digits.{Digits}

@@ -1,5 +1,5 @@
 -- Functions that are linear over the exclusive or. Assumes nothing.
-use Rattle.std.specs.Prelude.{◌≡◌, ℕ, zero, suc, ◌+◌, ◌*◌, ◌/◌, ◌%◌, ◌^◌, ◌<◌, Bool, T, bit_xor, nat_eq, refl}
+use Rattle.std.specs.Prelude.{◌≡◌, ℕ, zero, suc, ◌*◌, ◌/◌, ◌%◌, ◌^◌, ◌<◌, T, bit_xor, nat_eq, refl}
 use Rattle.std.proofs.Common.{sym, ap, ap₂, subst, ◌∙◌, zero-mul, one-mul, add-zero, div-add-mod', mod-lt, lt-suc_self, one-add, arith, eqb→eq, lit<, pow_pos}
 use Rattle.std.proofs.Math.Arith.{lt-one}
 use Rattle.std.specs.Int.Bits.{xor_assoc, xor_self, xor_zero_r, xor_shifted}

@@ -1,4 +1,3 @@
-use Rattle.std.proofs.Common.{◌≡◌}
 use Rattle.field.proofs.Rows.{one_row}
 use Rattle.field.proofs.Field.add_multiple.Goals as goal
 

@@ -1,4 +1,4 @@
-use Rattle.std.proofs.Common.{◌≡◌, ℕ, ◌<◌, length, get_or, sym, refl, ap, ◌∙◌, arith, rules}
+use Rattle.std.proofs.Common.{◌≡◌, ℕ, ◌<◌, length, get_or, sym, refl, arith}
 use Rattle.field.proofs.Rows.{one_row, from_zeros}
 use Rattle.field.proofs.Field.scale_row.Goals as goal
 

@@ -1,4 +1,4 @@
-use Rattle.std.proofs.Common.{◌≡◌, ℕ, ◌*◌, ◌/◌, ◌%◌, ◌<◌, length, get_or, refl, subst, arith}
+use Rattle.std.proofs.Common.{◌*◌, ◌/◌, ◌%◌, ◌<◌, length, refl, arith}
 use Rattle.field.proofs.Rows.{row_within, place_within}
 use Rattle.field.proofs.Field.spread.Goals as goal
 

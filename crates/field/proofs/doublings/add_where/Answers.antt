@@ -1,27 +1,27 @@
-use Rattle.std.proofs.Common.{◌≡◌, ℕ, ◌+◌, ◌-◌, ◌*◌, ◌/◌, ◌%◌, ◌^◌, ◌<◌, ◌≤◌, List, length, get_or, sym, refl, ap, ◌∙◌, subst, arith, rules}
+use Rattle.std.proofs.Common.{◌≡◌, ℕ, ◌+◌, ◌*◌, ◌/◌, ◌%◌, ◌^◌, ◌<◌, ◌≤◌, length, get_or, sym, refl, ap, ◌∙◌, subst, arith, rules}
 use Rattle.field.proofs.Parts.{part_length, part_at, put_codes, put_length}
 use Rattle.field.proofs.Rows.{row_fits}
-use Rattle.field.proofs.Where.{GainedTo, gained_set, gained_clear}
+use Rattle.field.proofs.Where.{gained_set, gained_clear}
 use Rattle.field.proofs.doublings.add_where.Goals as goal
 use Rattle.field.proofs.doublings.add_where.Goals.{then-factors-r-eq1, else-factors-r-eq1}
 
 pub loop-r-init : goal.loop-r-init
 loop-r-init g c = (refl, c.requires.sums, record { done = λ i h. absurd (omega arith); rest = λ i h. refl })
 
-pub offset-bounds-rows-from : goal.offset-bounds-rows-from
-offset-bounds-rows-from g c =
+pub offset_bounds-rows-from : goal.offset_bounds-rows-from
+offset_bounds-rows-from g c =
     let h = row_fits c.loop-r.r (length c.args.factors.now) (length c.args.row.now) c.loop-r-test.true in
     let k : c.loop-r.r * length c.args.row.now ≤ length c.loop-r.rows = omega arith in
     search rules
 
-pub slice-bounds-plus-row-end : goal.slice-bounds-plus-row-end
-slice-bounds-plus-row-end g c =
+pub slice_bounds-plus_row-end : goal.slice_bounds-plus_row-end
+slice_bounds-plus_row-end g c =
     let h = row_fits c.loop-r.r (length c.args.factors.now) (length c.args.row.now) c.loop-r-test.true in
     let k : c.loop-r.r * length c.args.row.now + length c.args.row.now ≤ length c.loop-r.rows = omega arith in
     search rules
 
-pub plus-row-requires : goal.plus-row-requires
-plus-row-requires g c =
+pub plus_row-requires : goal.plus_row-requires
+plus_row-requires g c =
     let h = row_fits c.loop-r.r (length c.args.factors.now) (length c.args.row.now) c.loop-r-test.true in
     let a : ℕ = c.loop-r.r * length c.args.row.now in
     let n : ℕ = length c.args.row.now in

@@ -1,4 +1,4 @@
-use Rattle.std.proofs.Common.{◌≡◌, ℕ, ◌/◌, ◌%◌, ◌^◌, length, get_or}
+use Rattle.std.proofs.Common.{◌≡◌, ◌/◌, ◌%◌, ◌^◌, length, get_or}
 use Rattle.field.specs.Laws.{Codes}
 use Rattle.field.proofs.Where.{GainedTo}
 use Rattle.field.proofs.doublings.add_where.Given as goal

@@ -1,4 +1,4 @@
-use Rattle.std.proofs.Common.{◌≡◌, ℕ, ◌+◌, ◌-◌, ◌*◌, ◌/◌, ◌%◌, ◌^◌, ◌<◌, ◌≤◌, length, get_or, sym, refl, ap, ◌∙◌, subst, arith}
+use Rattle.std.proofs.Common.{◌≡◌, ℕ, ◌+◌, ◌-◌, ◌*◌, ◌/◌, ◌%◌, ◌^◌, ◌<◌, length, get_or, sym, refl, ap, ◌∙◌, subst, arith}
 use Rattle.field.specs.Digits.{gained_all}
 use Rattle.field.specs.Rows.{combination}
 use Rattle.field.proofs.Combining.{done_start, done_next, done_end}
@@ -14,8 +14,8 @@ loop-step-init g c =
           c.places-places.result c.fill.new.self c.places-places.ensures zeros,
     )
 
-pub double-row-requires : goal.double-row-requires
-double-row-requires g c = c.loop-step.invariant.0
+pub double_row-requires : goal.double_row-requires
+double_row-requires g c = c.loop-step.invariant.0
 
 pub gather-requires : goal.gather-requires
 gather-requires g c =

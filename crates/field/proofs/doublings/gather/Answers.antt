@@ -1,28 +1,28 @@
-use Rattle.std.proofs.Common.{◌≡◌, ℕ, ◌+◌, ◌-◌, ◌*◌, ◌/◌, ◌%◌, ◌^◌, ◌<◌, ◌≤◌, List, length, get_or, sym, refl, ap, ◌∙◌, subst, arith, rules}
+use Rattle.std.proofs.Common.{◌≡◌, ℕ, ◌+◌, ◌*◌, ◌/◌, ◌%◌, ◌^◌, ◌<◌, ◌≤◌, length, get_or, sym, ap, ◌∙◌, subst, arith, rules}
 use Rattle.field.specs.Digits.{gained_all}
 use Rattle.field.proofs.Parts.{part_length, part_at}
 use Rattle.field.proofs.Rows.{row_fits}
-use Rattle.field.proofs.Combining.{GatheredTo, gathered_start, gathered_set, gathered_clear}
+use Rattle.field.proofs.Combining.{gathered_start, gathered_set, gathered_clear}
 use Rattle.field.proofs.doublings.gather.Goals as goal
 use Rattle.field.proofs.doublings.gather.Goals.{then-factors-r-eq1, else-factors-r-eq1}
 
 pub loop-r-init : goal.loop-r-init
 loop-r-init g c = (c.requires.sums, gathered_start g.D.Doubling.arith _ c.args.rows.now c.args.out.now)
 
-pub offset-bounds-rows-from : goal.offset-bounds-rows-from
-offset-bounds-rows-from g c =
+pub offset_bounds-rows-from : goal.offset_bounds-rows-from
+offset_bounds-rows-from g c =
     let h = row_fits c.loop-r.r (length c.args.factors.now) (length c.args.out.now) c.loop-r-test.true in
     let k : c.loop-r.r * length c.args.out.now ≤ length c.args.rows.now = omega arith in
     search rules
 
-pub slice-bounds-plus-row-end : goal.slice-bounds-plus-row-end
-slice-bounds-plus-row-end g c =
+pub slice_bounds-plus_row-end : goal.slice_bounds-plus_row-end
+slice_bounds-plus_row-end g c =
     let h = row_fits c.loop-r.r (length c.args.factors.now) (length c.args.out.now) c.loop-r-test.true in
     let k : c.loop-r.r * length c.args.out.now + length c.args.out.now ≤ length c.args.rows.now = omega arith in
     search rules
 
-pub plus-row-requires : goal.plus-row-requires
-plus-row-requires g c =
+pub plus_row-requires : goal.plus_row-requires
+plus_row-requires g c =
     let h = row_fits c.loop-r.r (length c.args.factors.now) (length c.args.out.now) c.loop-r-test.true in
     let a : ℕ = c.loop-r.r * length c.args.out.now in
     let n : ℕ = length c.args.out.now in

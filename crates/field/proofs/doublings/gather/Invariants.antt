@@ -1,4 +1,4 @@
-use Rattle.std.proofs.Common.{◌≡◌, ℕ, ◌/◌, ◌%◌, ◌^◌, length, get_or}
+use Rattle.std.proofs.Common.{◌/◌, ◌%◌, ◌^◌, get_or}
 use Rattle.field.specs.Laws.{Codes}
 use Rattle.field.proofs.Combining.{GatheredTo}
 use Rattle.field.proofs.doublings.gather.Given as goal

@@ -1,4 +1,4 @@
-use Rattle.std.proofs.Common.{◌≡◌, ℕ, ◌-◌, ◌*◌, ◌/◌, ◌%◌, ◌^◌, ◌<◌, ◌≤◌, length, get_or, sym, refl, ap, ◌∙◌, subst, div-one, arith}
+use Rattle.std.proofs.Common.{◌≡◌, ℕ, ◌-◌, ◌*◌, ◌/◌, ◌%◌, ◌^◌, ◌<◌, length, get_or, refl, ap, ◌∙◌, div-one, arith}
 use Rattle.field.specs.Digits.{gained}
 use Rattle.field.proofs.Digits.{left, left_is, left_next, left_none}
 use Rattle.field.proofs.Rows.{row_within, place_within}
@@ -21,8 +21,8 @@ loop-place-init g c =
           ∙ left_is g.met.D.Doubling.laws D K.width _ _ _ fits wf (c.requires.sums i h) wx,
     )
 
-pub add-where-requires : goal.add-where-requires
-add-where-requires g c =
+pub add_where-requires : goal.add_where-requires
+add_where-requires g c =
     let e : length c.loop-place.row ≡ length c.args.row.now = c.loop-place.auto.row in
     let s : length c.loop-place.rows ≡ length c.args.factors.now * length c.args.row.now = omega arith in
     record {
@@ -32,8 +32,8 @@ add-where-requires g c =
       codes = c.loop-place.invariant.1;
     }
 
-pub double-row-requires : goal.double-row-requires
-double-row-requires g c = c.loop-place.invariant.1
+pub double_row-requires : goal.double_row-requires
+double_row-requires g c = c.loop-place.invariant.1
 
 pub loop-place-preserved : goal.loop-place-preserved
 loop-place-preserved g c =

@@ -1,11 +1,11 @@
-use Rattle.std.proofs.Common.{◌≡◌, ℕ, ◌<◌, sym, ◌∙◌, arith, rules}
+use Rattle.std.proofs.Common.{◌≡◌, ◌<◌, sym, ◌∙◌, arith}
 use Rattle.field.specs.Gf256.{Remainder, carryless, times}
 use Rattle.field.specs.Laws256.{laws256}
 use Rattle.field.proofs.Remainders.{product_remainder, one_remainder}
 use Rattle.field.proofs.gf256.product.Goals as goal
 
-pub overflow-cast-result : goal.overflow-cast-result
-overflow-cast-result c =
+pub overflow_cast-result : goal.overflow_cast-result
+overflow_cast-result c =
     let h : times c.args.a c.args.b < 256 = laws256.mul_below c.args.a c.args.b (omega arith) (omega arith) in
     let e : c.mul-p.result ≡ times c.args.a c.args.b = c.mul-p.ensures in
     let k : c.mul-p.result < 256 = omega arith in

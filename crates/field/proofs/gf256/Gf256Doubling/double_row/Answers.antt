@@ -1,5 +1,5 @@
-use Rattle.std.proofs.Common.{◌≡◌, ℕ, ◌<◌, ◌≤◌, ◌≢◌, length, get_or, ap, ◌∙◌, arith, lit<, get_or-set_other, get_or-set_same, rules, below_more}
-use Rattle.field.specs.Gf256.{xtime, gf256}
+use Rattle.std.proofs.Common.{◌<◌, ◌≢◌, length, get_or, ap, ◌∙◌, arith, lit<, get_or-set_other, get_or-set_same, below_more}
+use Rattle.field.specs.Gf256.{xtime}
 use Rattle.field.specs.Laws256.{laws256, two_times}
 use Rattle.field.proofs.gf256.Gf256Doubling.double_row.Goals as goal
 

@@ -1,4 +1,4 @@
-use Rattle.std.proofs.Common.{◌≡◌, ◌<◌, length, arith}
+use Rattle.std.proofs.Common.{◌<◌, length, arith}
 use lib.Bits.{xor_lt}
 use Rattle.field.proofs.gf256.Gf256Doubling.plus_row.Goals as goal
 

@@ -1,4 +1,4 @@
-use Rattle.std.proofs.Common.{◌≡◌, ℕ, ◌≢◌, get_or, sym, refl, ap, ◌∙◌}
+use Rattle.std.proofs.Common.{ℕ, get_or, sym, ap, ◌∙◌}
 use native.Mathlib.Decide.{ℕ_discrete}
 use Rattle.field.specs.Gf256.{gf256}
 use Rattle.field.specs.Every.{at}

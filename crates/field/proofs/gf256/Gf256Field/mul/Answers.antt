@@ -1,6 +1,5 @@
-use Rattle.std.proofs.Common.{◌≡◌, ℕ, ◌*◌, ◌%◌, ◌<◌, sym, refl, ap, ◌∙◌, subst, one-mul, zero-mul, arith}
+use Rattle.std.proofs.Common.{◌≡◌, ℕ, ◌*◌, ◌%◌, sym, refl, ap, ◌∙◌, one-mul, zero-mul, arith}
 use lib.Bits.{bit_xor, xor_zero_r}
-use Rattle.field.specs.Gf256.{xtime}
 use Rattle.field.specs.Laws256.{turn, end, xtime_lt}
 use Rattle.field.proofs.gf256.Gf256Field.mul.Goals as goal
 use Rattle.field.proofs.gf256.Gf256Field.mul.Goals.{then-y-eq1, else-y-eq1}
