@@ -1,5 +1,5 @@
 -- Rows of codes in one list: entries by row and column. Assumes nothing.
-use mathlib.Core.Path.{◌≡◌, refl, sym, ◌∙◌, ap, ap₂, subst}
+use mathlib.Core.Path.{◌≡◌, sym, ◌∙◌, ap, subst}
 use mathlib.Core.Logic.{◌≢◌}
 use mathlib.Core.List.{List}
 use Prim.Native.Nat.{ℕ, ◌+◌, ◌-◌, ◌*◌, ◌/◌, ◌%◌, ◌<◌, ◌≤◌}
@@ -7,7 +7,7 @@ use native.Mathlib.Nat.{div-add-mod'}
 use native.Mathlib.Omega.{arith}
 use native.Mathlib.Decide.{dec_lt}
 use borrow.Rule.Slice.PartMut.{put_mid}
-use lib.Arith.{digits_lt, digits_div, digits_mod}
+use lib.Arith.{digits_lt}
 use lib.ListN.{length, get_or, take, drop}
 use Rattle.field.specs.Laws.{Codes}
 use Rattle.field.proofs.Parts.{part_at, put_before, put_inside, put_behind, put_codes, put_length}

@@ -1,13 +1,12 @@
 -- What the steps of elimination do to each column. Assumes nothing.
-use mathlib.Core.Path.{◌≡◌, refl, sym, ◌∙◌, ap, ap₂, subst}
+use mathlib.Core.Path.{◌≡◌, sym, ◌∙◌, ap, ap₂, subst}
 use mathlib.Core.Logic.{◌≢◌}
 use mathlib.Core.List.{List}
-use Prim.Native.Nat.{ℕ, ◌+◌, ◌-◌, ◌*◌, ◌/◌, ◌%◌, ◌<◌, ◌≤◌}
-use native.Mathlib.Omega.{arith}
+use Prim.Native.Nat.{ℕ, ◌+◌, ◌-◌, ◌*◌, ◌/◌, ◌%◌, ◌<◌}
 use borrow.Rule.Slice.PartMut.{put_mid}
 use lib.Arith.{digits_lt, digits_div, digits_mod}
 use lib.ListN.{length, get_or, take, drop}
-use Rattle.field.specs.Laws.{Ops, FieldLaws, Codes}
+use Rattle.field.specs.Laws.{Ops, FieldLaws}
 use Rattle.field.specs.Rows.{GainMultiples, Gains, Multiple}
 use Rattle.field.proofs.Digits.{one-mul, zero-mul}
 use Rattle.algebra.specs.Field.{Added, Scaled, Cleared, Columns}

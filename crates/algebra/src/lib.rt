@@ -1,4 +1,5 @@
 #![tactic(auto)]
+
 ghost use Rattle.std.specs.Prelude.{ℕ, ◌+◌, ◌*◌, ◌<◌, ◌≤◌, get_or, length, ◌≢◌, ◌≡◌};
 ghost use Rattle.algebra.specs.Codes.{Regular};
 ghost use Rattle.algebra.specs.Field.{Added, Cleared, Columns, Scaled, Units};

@@ -1,6 +1,6 @@
 use borrow.Author.Rules.{rules}
 use borrow.Author.Count.{below_more}
-use mathlib.Core.Path.{◌≡◌, subst, sym}
+use mathlib.Core.Path.{◌≡◌}
 use Prim.Native.Nat.{ℕ, ◌+◌, ◌*◌, ◌<◌, ◌≤◌}
 use native.Mathlib.Omega.{arith}
 use lib.ListN.{length, get_or}
@@ -8,8 +8,8 @@ use Rattle.algebra.specs.Flat.{cell}
 use Rattle.algebra.proofs.Cells.{cell_within}
 use Rattle.algebra.proofs.find_pivot.Goals as goal
 
-pub offset-bounds-rows-i : goal.offset-bounds-rows-i
-offset-bounds-rows-i c =
+pub offset_bounds-rows-i : goal.offset_bounds-rows-i
+offset_bounds-rows-i c =
     let h = cell_within c.args.m c.args.w c.loop-i.i c.args.c c.loop-i-test.true c.requires.column in
     let k : c.loop-i.i * c.args.w + c.args.c < length c.args.rows.now = omega arith in
     search rules

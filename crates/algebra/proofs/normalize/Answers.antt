@@ -1,8 +1,8 @@
 use borrow.Author.Rules.{rules}
-use mathlib.Core.Path.{◌≡◌, refl, sym, ap, subst, ◌∙◌}
+use mathlib.Core.Path.{◌≡◌, sym, subst, ◌∙◌}
 use Prim.Native.Nat.{ℕ, ◌+◌, ◌-◌, ◌*◌, ◌≤◌, ◌<◌}
 use native.Mathlib.Omega.{arith}
-use lib.ListN.{length, get_or}
+use lib.ListN.{length}
 use Rattle.field.proofs.Parts.{part_length, part_at}
 use Rattle.field.proofs.Rows.{row_fits}
 use borrow.Rule.Slice.PartMut.{put_mid}
@@ -12,8 +12,8 @@ use Rattle.algebra.proofs.Steps.{scaled_columns}
 use Rattle.algebra.proofs.Cells.{cell_within, grid_codes, put_grid}
 use Rattle.algebra.proofs.normalize.Goals as goal
 
-pub offset-bounds-rows-from : goal.offset-bounds-rows-from
-offset-bounds-rows-from g c =
+pub offset_bounds-rows-from : goal.offset_bounds-rows-from
+offset_bounds-rows-from g c =
     let h = cell_within c.args.m (length c.args.row.now) c.args.c c.args.c c.requires.within (omega arith) in
     let k : c.args.c * length c.args.row.now + c.args.c < length c.args.rows.now = omega arith in
     search rules
@@ -27,21 +27,21 @@ pub inv-k-requires : goal.inv-k-requires
 unfolding cell
 inv-k-requires g c = c.requires.grid.below c.args.c c.requires.within c.args.c (omega arith)
 
-pub offset-bounds-rows-from-2 : goal.offset-bounds-rows-from-2
-offset-bounds-rows-from-2 g c =
+pub offset_bounds-rows-from-2 : goal.offset_bounds-rows-from-2
+offset_bounds-rows-from-2 g c =
     let h = row_fits c.args.c c.args.m (length c.args.row.now) c.requires.within in
     let k : c.args.c * length c.args.row.now ≤ length c.args.rows.now = omega arith in
     search rules
 
-pub slice-bounds-scale-row-end : goal.slice-bounds-scale-row-end
-slice-bounds-scale-row-end g c =
+pub slice_bounds-scale_row-end : goal.slice_bounds-scale_row-end
+slice_bounds-scale_row-end g c =
     let h = row_fits c.args.c c.args.m (length c.args.row.now) c.requires.within in
     let k : c.args.c * length c.args.row.now + length c.args.row.now ≤ length c.args.rows.now = omega arith in
     search rules
 
-pub scale-row-requires : goal.scale-row-requires
+pub scale_row-requires : goal.scale_row-requires
 unfolding cell
-scale-row-requires g c =
+scale_row-requires g c =
     let h = row_fits c.args.c c.args.m (length c.args.row.now) c.requires.within in
     let a : ℕ = c.args.c * length c.args.row.now in
     let w : ℕ = length c.args.row.now in
@@ -60,10 +60,10 @@ returns g c =
     let w : ℕ = length c.args.row.now in
     let room : c.args.c * w + w ≤ length c.args.rows.now = omega arith in
     let size = part_length c.args.rows.now (c.args.c * w) w room in
-    let len : length c.scale-row.new.row ≡ w = c.scale-row.auto.row ∙ size in
+    let len : length c.scale_row.new.row ≡ w = c.scale_row.auto.row ∙ size in
     let e : c.inv-k.result ≡ g.F.Field.ops.inv (cell w c.args.rows.now c.args.c c.args.c) = unfold cell in c.inv-k.ensures in
     record {
-      grid = put_grid c.args.m w c.args.rows.now c.scale-row.new.row c.args.c c.requires.grid.size c.requires.within len g.F.Field.ops.order c.requires.grid c.scale-row.ensures.codes;
-      scaled = subst (λ (k : ℕ). Columns w (Scaled g.F.Field.ops.mul c.args.m c.args.c k) (cell w c.args.rows.now) (cell w (put_mid (c.args.c * w) (c.args.c * w + w - c.args.c * w) c.args.rows.now c.scale-row.new.row))) e
-          (scaled_columns g.met.F.Field.laws c.args.m w c.args.rows.now c.requires.grid c.args.c c.inv-k.result c.scale-row.new.row c.requires.within len size c.scale-row.ensures.value);
+      grid = put_grid c.args.m w c.args.rows.now c.scale_row.new.row c.args.c c.requires.grid.size c.requires.within len g.F.Field.ops.order c.requires.grid c.scale_row.ensures.codes;
+      scaled = subst (λ (k : ℕ). Columns w (Scaled g.F.Field.ops.mul c.args.m c.args.c k) (cell w c.args.rows.now) (cell w (put_mid (c.args.c * w) (c.args.c * w + w - c.args.c * w) c.args.rows.now c.scale_row.new.row))) e
+          (scaled_columns g.met.F.Field.laws c.args.m w c.args.rows.now c.requires.grid c.args.c c.inv-k.result c.scale_row.new.row c.requires.within len size c.scale_row.ensures.value);
     }

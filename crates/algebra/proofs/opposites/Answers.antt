@@ -11,8 +11,8 @@ use Rattle.algebra.specs.Flat.{cell}
 use Rattle.algebra.proofs.Cells.{cell_within}
 use Rattle.algebra.proofs.opposites.Goals as goal
 
-pub offset-bounds-rows-r : goal.offset-bounds-rows-r
-offset-bounds-rows-r g c =
+pub offset_bounds-rows-r : goal.offset_bounds-rows-r
+offset_bounds-rows-r g c =
     let h = cell_within (length c.args.factors.now) c.args.w c.loop-r.r c.args.c c.loop-r-test.true c.requires.column in
     let k : c.loop-r.r * c.args.w + c.args.c < length c.args.rows.now = omega arith in
     search rules

@@ -1,6 +1,6 @@
 use mathlib.Core.Path.{◌≡◌}
 use Prim.Native.Nat.{ℕ, ◌<◌}
-use lib.ListN.{get_or, length}
+use lib.ListN.{get_or}
 use Rattle.algebra.specs.Flat.{cell}
 use Rattle.algebra.proofs.opposites.Given as goal
 
