@@ -1,7 +1,6 @@
 -- A piece in a buffer: its header, its body, and what stands behind it. Assumes nothing.
-use Rattle.std.proofs.Common.{◌≡◌, ℕ, zero, suc, ◌+◌, ◌-◌, ◌*◌, ◌/◌, ◌%◌, ◌<◌, ◌≤◌, Bool, true, false, cond, leb, ◌⊎◌, List, [], ◌∷◌, ◌++◌, length, get_or, take, drop, Ok, Err, sym, refl, ap, ◌∙◌, subst, ap₂, inl, inr, append_assoc, append-nil, arith, length-drop, take-append-drop, drop_of_length-le, drop-drop, le-leb}
+use Rattle.std.proofs.Common.{◌≡◌, ℕ, ◌+◌, ◌-◌, ◌/◌, ◌<◌, ◌≤◌, true, false, cond, leb, ◌⊎◌, List, [], ◌++◌, length, get_or, take, drop, Ok, Err, sym, refl, ap, ◌∙◌, subst, ap₂, inl, inr, append_assoc, append-nil, arith, length-drop, take-append-drop, drop_of_length-le, drop-drop, le-leb}
 use borrow.Author.Tests.{lt-leb}
-use borrow.Rule.Slice.PartMut.{put_mid}
 use Rattle.std.specs.List.{flat_map}
 use Rattle.field.specs.Laws.{Ops}
 use Rattle.piece.specs.declared.Settings.{Settings}
@@ -9,7 +8,7 @@ use Rattle.piece.specs.declared.fault.CutFault.TheVariants as fault
 use Rattle.piece.specs.declared.layout.Layout.{Layout}
 use Rattle.piece.specs.Bits.{bits_of, octets, packed, bytes_for}
 use Rattle.piece.specs.Cutting.{cutting, is_in_range, job_of, size}
-use Rattle.piece.specs.Pieces.{body, columns, header, piece, value, listed, Lawful}
+use Rattle.piece.specs.Pieces.{body, columns, header, piece, value, Lawful}
 use Rattle.piece.proofs.Octets.{octets_append, listed_is}
 use Rattle.piece.proofs.Values.{job_length, layout_lawful}
 

@@ -5,7 +5,7 @@ use Rattle.std.specs.List.{flat_map}
 use Rattle.std.specs.Int.Digits.{AllBelowBase}
 use Rattle.std.proofs.lemmas.List.{append-nil, drop_all, get_or-drop, get_or-append_right}
 use Rattle.std.proofs.ByRecursion.{All-from_get_or}
-use Rattle.piece.specs.Bits.{bits_of, packed, bits_in, worth_after, worth, value_in, bytes_for, BadValue, SpareOne, Fault, Holds}
+use Rattle.piece.specs.Bits.{bits_of, bits_in, worth_after, worth, value_in, bytes_for, BadValue, SpareOne, Fault, Holds}
 use Rattle.piece.specs.Pieces.{listed}
 use Rattle.piece.specs.declared.bits.Cursor.{Cursor}
 use Rattle.piece.proofs.Octets.{length_bits_of, under_bits_of, bits_zero, worth_bits, length_joined, under_joined, length_listed, get_d_listed, value_eight, value_packed, bits_octets, packed_listed, same_packed, listed_is}

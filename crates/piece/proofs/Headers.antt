@@ -1,8 +1,8 @@
 -- The header's bytes. Assumes nothing.
-use Rattle.std.proofs.Common.{◌≡◌, ℕ, zero, suc, ◌+◌, ◌-◌, ◌*◌, ◌/◌, ◌%◌, ◌^◌, ◌<◌, ◌≤◌, List, [], ◌∷◌, ◌++◌, sym, refl, ap, ◌∙◌, subst, ap₂, append_assoc, append-nil, add-zero, add-suc, div-one, add-one, one-add, arith, pow-add}
+use Rattle.std.proofs.Common.{◌≡◌, ℕ, ◌+◌, ◌-◌, ◌*◌, ◌/◌, ◌%◌, ◌^◌, ◌<◌, ◌≤◌, List, [], ◌∷◌, ◌++◌, sym, refl, ap, ◌∙◌, subst, ap₂, append_assoc, append-nil, arith, pow-add}
 use lib.Arith.{digits_lt}
 use Rattle.piece.proofs.Octets.{bits_join, bits_cut, octets_byte, octets_none}
-use Rattle.piece.specs.Bits.{bits_of, octet, octets}
+use Rattle.piece.specs.Bits.{bits_of, octets}
 use Rattle.piece.specs.Pieces.{header, Lawful}
 use Rattle.piece.specs.declared.Settings.{Settings}
 

@@ -1,8 +1,7 @@
 -- Laying a job out by place. Assumes nothing.
-use Rattle.std.proofs.Common.{◌≡◌, ℕ, zero, suc, ◌+◌, ◌-◌, ◌*◌, ◌/◌, ◌%◌, ◌<◌, ◌≤◌, ◌≢◌, List, length, get_or, take, replicate, sym, refl, ap, ◌∙◌, subst, ap₂, mod-lt, div-lt_iff_lt-mul, add-mul, one-mul, div-add-mod', arith, lit<, length-take-le}
+use Rattle.std.proofs.Common.{◌≡◌, ℕ, zero, suc, ◌+◌, ◌-◌, ◌*◌, ◌/◌, ◌%◌, ◌<◌, ◌≤◌, List, length, get_or, take, replicate, sym, refl, ap, ◌∙◌, subst, mod-lt, div-lt_iff_lt-mul, add-mul, one-mul, div-add-mod', arith, lit<, length-take-le}
 use native.Mathlib.Decide.{dec_lt, ℕ_discrete}
 use borrow.Rule.Slice.PartMut.{put_mid}
-use lib.Arith.{digits_lt}
 use lib.ListN.{length-replicate}
 use Rattle.field.proofs.Parts.{put_before, put_inside, put_behind}
 use Rattle.field.proofs.Rows.{row_fits, row_within, place_within}

@@ -1,5 +1,5 @@
 -- Settings in range, and how many columns there are. Assumes nothing.
-use Rattle.std.proofs.Common.{◌≡◌, ℕ, zero, suc, ◌+◌, ◌-◌, ◌*◌, ◌/◌, ◌%◌, ◌<◌, ◌≤◌, Bool, true, false, cond, leb, sym, refl, ap, ◌∙◌, subst, mul-le-mul_right, mod-lt, mul_comm, div-lt_iff_lt-mul, mul-le-mul_left, div-add-mod', arith, leb-true}
+use Rattle.std.proofs.Common.{◌≡◌, ℕ, ◌+◌, ◌-◌, ◌*◌, ◌/◌, ◌<◌, ◌≤◌, Bool, true, false, cond, refl, mul-le-mul_right, mod-lt, div-lt_iff_lt-mul, mul-le-mul_left, div-add-mod', arith, leb-true}
 use native.Mathlib.Nat.{mul-div-le}
 use native.Mathlib.Decide.{dec_lt}
 use Rattle.piece.specs.declared.Settings.{Settings}

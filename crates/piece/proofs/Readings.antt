@@ -1,11 +1,11 @@
 -- Steps of the reader. Assumes nothing.
-use Rattle.std.proofs.Common.{◌≡◌, ℕ, ◌+◌, ◌-◌, ◌*◌, ◌/◌, ◌<◌, ◌≤◌, Bool, true, false, cond, leb, ◌⊎◌, List, [], ◌∷◌, length, get_or, drop, sym, refl, ap, ◌∙◌, subst, ap₂, inl, inr, mul-le-mul, div-le_self, arith, leb-true}
+use Rattle.std.proofs.Common.{◌≡◌, ℕ, ◌+◌, ◌-◌, ◌*◌, ◌<◌, ◌≤◌, Bool, true, false, cond, leb, ◌⊎◌, List, [], ◌∷◌, length, get_or, drop, sym, ap, ◌∙◌, subst, inl, inr, mul-le-mul, div-le_self, arith, leb-true}
 use Rattle.field.specs.Laws.{Ops}
 use Rattle.piece.specs.declared.fault.ReadFault.{ReadFault}
 use Rattle.piece.specs.declared.fault.ReadFault.TheVariants as fault
 use Rattle.piece.proofs.Ranges.{false_true}
 use Rattle.piece.specs.declared.Header.{Header}
-use Rattle.piece.specs.Bits.{Fault, BadValue, SpareOne}
+use Rattle.piece.specs.Bits.{Fault}
 use Rattle.piece.specs.Reading.{code_in, header_in, count, sensible, Headed, GoodBody, BadBody, Accepts, Refuses}
 use Rattle.piece.proofs.Fields.{code_is, header_is, code_of, header_of}
 

@@ -1,5 +1,5 @@
 -- The symbols of a job that is laid out, and the values of its pieces. Assumes nothing.
-use Rattle.std.proofs.Common.{◌≡◌, ℕ, zero, suc, ◌+◌, ◌-◌, ◌*◌, ◌/◌, ◌%◌, ◌<◌, ◌≤◌, List, length, get_or, take, sym, refl, ap, ◌∙◌, subst, ap₂, mul_comm, arith}
+use Rattle.std.proofs.Common.{◌≡◌, ℕ, ◌+◌, ◌*◌, ◌/◌, ◌%◌, ◌<◌, List, length, get_or, take, sym, ap, ◌∙◌, subst, ap₂, arith}
 use native.Mathlib.Decide.{dec_lt}
 use lib.Arith.{digits_div, digits_mod, digits_lt}
 use Rattle.std.proofs.lemmas.List.{get_or_past, get_or-take}
@@ -7,7 +7,6 @@ use Rattle.field.specs.Laws.{Ops}
 use Rattle.field.specs.Rows.{combination}
 use Rattle.field.specs.Sums.{sum}
 use Rattle.algebra.proofs.Ring.{sum_same}
-use Rattle.piece.specs.declared.Settings.{Settings}
 use Rattle.piece.specs.declared.layout.Layout.{Layout}
 use Rattle.piece.specs.Cutting.{job_of}
 use Rattle.piece.specs.Pieces.{Lawful, entry, place, value, listed}

@@ -1,5 +1,5 @@
 -- What the reader's verdict means: bytes that are some header with a lawful body, and pieces read back. Assumes nothing.
-use Rattle.std.specs.Prelude.{◌≡◌, ℕ, ◌^◌, ◌<◌, ◌≤◌, true, ◌↔◌, List, ◌++◌, length, drop, slice_index}
+use Rattle.std.specs.Prelude.{◌≡◌, ℕ, ◌^◌, ◌<◌, ◌≤◌, ◌↔◌, List, ◌++◌, length, drop, slice_index}
 use Rattle.field.specs.Laws.{Ops}
 use Rattle.piece.specs.declared.Header.{Header}
 use Rattle.piece.specs.declared.Settings.{Settings}

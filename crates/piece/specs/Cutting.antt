@@ -1,12 +1,12 @@
 -- What cutting answers and writes. Assumes nothing.
-use Rattle.std.specs.Prelude.{◌≡◌, ℕ, ◌+◌, ◌-◌, ◌*◌, ◌/◌, ◌%◌, ◌<◌, ◌≤◌, Bool, true, false, cond, List, [], ◌∷◌, ◌++◌, length, drop, Ok, Err, Result, nat_le}
+use Rattle.std.specs.Prelude.{ℕ, ◌+◌, ◌*◌, ◌/◌, ◌%◌, Bool, false, cond, List, ◌++◌, length, drop, Ok, Err, Result, nat_le}
 use Rattle.field.specs.Laws.{Ops}
 use Rattle.piece.specs.declared.Settings.{Settings}
 use Rattle.piece.specs.declared.fault.CutFault.{CutFault}
 use Rattle.piece.specs.declared.fault.CutFault.TheVariants as fault
 use Rattle.piece.specs.declared.layout.Layout.{Layout}
 use Rattle.piece.specs.Layouts.{cell_at}
-use Rattle.piece.specs.Pieces.{Lawful, listed, columns, piece}
+use Rattle.piece.specs.Pieces.{listed, columns}
 
 -- the number of each refusal of cutting
 abbrev pub number : CutFault → ℕ

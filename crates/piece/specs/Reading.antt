@@ -1,5 +1,5 @@
 -- What the reader answers. Assumes nothing.
-use Rattle.std.specs.Prelude.{◌≡◌, ℕ, ◌+◌, ◌-◌, ◌*◌, ◌/◌, ◌<◌, ◌≤◌, Bool, true, false, cond, ◌≢◌, List, length, take, drop, nat_le}
+use Rattle.std.specs.Prelude.{◌≡◌, ℕ, ◌+◌, ◌-◌, ◌/◌, ◌<◌, ◌≤◌, Bool, true, false, cond, ◌≢◌, List, length, take, drop, nat_le}
 use Rattle.field.specs.Laws.{Ops}
 use Rattle.piece.specs.declared.Header.{Header}
 use Rattle.piece.specs.declared.fault.ReadFault.{ReadFault}

@@ -1,5 +1,5 @@
 -- Pieces worked by hand, over the definition that cutting's contract cites. Assumes nothing.
-use Rattle.std.specs.Prelude.{◌≡◌, ℕ, List, [], ◌∷◌, drop}
+use Rattle.std.specs.Prelude.{◌≡◌, ℕ, [], ◌∷◌, drop}
 use Rattle.field.specs.Gf256.{gf256}
 use Rattle.field.specs.Mod257.{mod257}
 use Rattle.field.specs.Worked.{WorkedSums}

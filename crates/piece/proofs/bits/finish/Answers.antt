@@ -8,8 +8,8 @@ pub returns-then-at-eq0 : goal.returns-then-at-eq0
 returns-then-at-eq0 c =
     record { many = omega arith; front = finish_whole c.args.out.now c.args.at (omega arith) c.requires.bytes; rest = refl }
 
-pub overflow-cast-out : goal.overflow-cast-out
-overflow-cast-out c =
+pub overflow_cast-out : goal.overflow_cast-out
+overflow_cast-out c =
     let s = c.requires.short in
     let e = shl_whole c.args.at.acc c.args.at.bits (8 - c.args.at.bits) 32 s.small (omega (arith, s.few)) in
     let h = last_byte c.args.at.acc c.args.at.bits s.few s.small in

@@ -2,8 +2,8 @@ use Rattle.std.proofs.Common.{◌^◌, ◌<◌, length, arith, rules}
 use Rattle.piece.proofs.Packing.{flush_step, top_bits}
 use Rattle.piece.proofs.bits.flush.Goals as goal
 
-pub overflow-cast-out : goal.overflow-cast-out
-overflow-cast-out c =
+pub overflow_cast-out : goal.overflow_cast-out
+overflow_cast-out c =
     let h : c.high.result < 2 ^ 8 = rw c.high.ensures.above (top_bits 8 c.loop-at.at.acc c.loop-at.at.bits c.loop-at-test.true c.loop-at.invariant.small) in
     search rules
 

@@ -6,8 +6,8 @@ use Rattle.piece.proofs.bits.pack.Goals as goal
 eight : (w : ℕ) → w ≡ 8 → (v : ℕ) → v < 2 ^ w → v < 256
 eight w e v h = subst (λ (n : ℕ). v < 2 ^ n) e h
 
-pub pack-bytes-requires : goal.pack-bytes-requires
-pack-bytes-requires c =
+pub pack_bytes-requires : goal.pack_bytes-requires
+pack_bytes-requires c =
     let n = length c.args.values.now in
     let e : c.args.width ≡ 8 = c.if-width-eq8.true in
     let m = ap (λ (w : ℕ). n * w) e in
@@ -20,7 +20,7 @@ returns-then-width-eq8 c =
     let m = ap (λ (w : ℕ). length vs * w) e in
     let p = packed_eight vs (λ k h. eight c.args.width e _ (c.requires.fit k h)) in
     record {
-      many = omega (arith, c.pack-bytes.ensures.many);
-      front = c.pack-bytes.ensures.front ∙ (sym p ∙ ap (λ (w : ℕ). packed w vs) (sym e));
-      rest = c.pack-bytes.ensures.rest;
+      many = omega (arith, c.pack_bytes.ensures.many);
+      front = c.pack_bytes.ensures.front ∙ (sym p ∙ ap (λ (w : ℕ). packed w vs) (sym e));
+      rest = c.pack_bytes.ensures.rest;
     }

@@ -3,8 +3,8 @@ use Rattle.piece.proofs.Packing.{top_bits, below_pow}
 use Rattle.piece.proofs.Unpacking.{read_same}
 use Rattle.piece.proofs.bits.read.Goals as goal
 
-pub overflow-cast-v : goal.overflow-cast-v
-overflow-cast-v c =
+pub overflow_cast-v : goal.overflow_cast-v
+overflow_cast-v c =
     let e = c.fill-all.ensures in
     let x = c.fill-all.result in
     let h : c.high-v.result < 2 ^ 16 = rw c.high-v.ensures.above (below_pow (x.acc / 2 ^ (x.bits - c.args.width)) c.args.width 16 (top_bits c.args.width x.acc x.bits e.enough e.small) c.requires.wide) in

@@ -9,7 +9,7 @@ loop-k-init c = unpack_none 8 c.args.bytes.now c.args.values.now
 pub loop-k-preserved : goal.loop-k-preserved
 loop-k-preserved c =
     let bytes = c.args.bytes.now in
-    let f = c.type-inv.bytes c.loop-k.k in
+    let f = c.type_inv.bytes c.loop-k.k in
     let b : get_or bytes c.loop-k.k 0 < 256 = search rules in
     let l : c.loop-k.k < length bytes = omega arith in
     let m : c.loop-k.k < length c.loop-k.values = omega arith in

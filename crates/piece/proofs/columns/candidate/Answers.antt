@@ -1,8 +1,8 @@
 use Rattle.std.proofs.Common.{ℕ, ◌+◌, ◌*◌, ◌≤◌, mul-le-mul, arith, rules}
 use Rattle.piece.proofs.columns.candidate.Goals as goal
 
-pub slice-bounds-grid-end : goal.slice-bounds-grid-end
-slice-bounds-grid-end g c =
+pub slice_bounds-grid-end : goal.slice_bounds-grid-end
+slice_bounds-grid-end g c =
     let m : ℕ = c.args.settings.m in
     let few : m ≤ 16 = (c.asked.ensures.yes c.if-not-asked.false).seen.lawful.needed in
     let wide : m + 1 ≤ 17 = omega arith in

@@ -5,8 +5,8 @@ use Rattle.field.proofs.Rows.{row_fits}
 use Rattle.piece.proofs.Candidates.{system_first, system_next}
 use Rattle.piece.proofs.columns.lay_system.Goals as goal
 
-pub slice-bounds-read-place-end : goal.slice-bounds-read-place-end
-slice-bounds-read-place-end g c =
+pub slice_bounds-read_place-end : goal.slice_bounds-read_place-end
+slice_bounds-read_place-end g c =
     let m : ℕ = c.args.settings.m in
     let h = row_fits 0 m (m + 1) c.requires.asked.seen.lawful.some in
     let k : m + 1 ≤ length c.args.grid.now = omega arith in
@@ -20,12 +20,12 @@ loop-r-init g c =
     let size : length (take (m + 1 - 0) c.args.grid.now) ≡ m + 1 = length-take-le (m + 1 - 0) c.args.grid.now ends ∙ omega arith in
     let last : length (take (m + 1 - 0) c.args.grid.now) - 1 ≡ m = omega arith in
     system_first g.met.F.Field.laws c.args.settings c.args.numbers.now c.args.symbols.now c.args.place c.args.value c.requires.asked.place c.requires.asked.value
-    c.read-place.new.row (post_of 0 (m + 1 - 0) c.args.grid.now) (c.read-place.auto.row ∙ size)
-    c.read-place.ensures.one (λ j l n. c.read-place.ensures.zeros j (omega arith) n)
-    (ap (λ (n : ℕ). get_or c.read-place.new.row n 0) (sym last) ∙ c.read-place.ensures.value)
+    c.read_place.new.row (post_of 0 (m + 1 - 0) c.args.grid.now) (c.read_place.auto.row ∙ size)
+    c.read_place.ensures.one (λ j l n. c.read_place.ensures.zeros j (omega arith) n)
+    (ap (λ (n : ℕ). get_or c.read_place.new.row n 0) (sym last) ∙ c.read_place.ensures.value)
 
-pub slice-bounds-read-piece-end : goal.slice-bounds-read-piece-end
-slice-bounds-read-piece-end g c =
+pub slice_bounds-read_piece-end : goal.slice_bounds-read_piece-end
+slice_bounds-read_piece-end g c =
     let m : ℕ = c.args.settings.m in
     let r : ℕ = c.loop-r.r in
     let lr : r + 1 < m = omega (arith, c.requires.asked.numbered, c.loop-r-test.true) in
@@ -42,5 +42,5 @@ loop-r-preserved g c =
     let all : length c.loop-r.grid ≡ m * (m + 1) = omega arith in
     let room : (r + 1) * (m + 1) + (m + 1) ≤ length c.loop-r.grid = omega arith in
     system_next g.met.F.Field.laws c.args.settings c.args.numbers.now c.args.symbols.now c.args.place c.args.value c.requires.asked.place c.requires.asked.value
-    r c.loop-r.grid c.read-piece.new.row c.loop-r.invariant all lr (c.read-piece.auto.row ∙ part_length c.loop-r.grid ((r + 1) * (m + 1)) (m + 1) room)
-    c.read-piece.ensures.codes c.read-piece.ensures.entries c.read-piece.ensures.symbol
+    r c.loop-r.grid c.read_piece.new.row c.loop-r.invariant all lr (c.read_piece.auto.row ∙ part_length c.loop-r.grid ((r + 1) * (m + 1)) (m + 1) room)
+    c.read_piece.ensures.codes c.read_piece.ensures.entries c.read_piece.ensures.symbol

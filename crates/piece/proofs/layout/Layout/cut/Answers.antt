@@ -1,4 +1,4 @@
-use Rattle.std.proofs.Common.{◌≡◌, ℕ, ◌+◌, ◌-◌, ◌*◌, ◌/◌, ◌<◌, ◌≤◌, List, ◌++◌, length, drop, Ok, Err, sym, refl, ap, ◌∙◌, subst, arith, length-take-le, rules}
+use Rattle.std.proofs.Common.{◌≡◌, ℕ, ◌<◌, ◌≤◌, ◌++◌, length, drop, Ok, Err, sym, refl, ap, ◌∙◌, subst, rules}
 use Rattle.piece.specs.declared.fault.CutFault.TheVariants as fault
 use Rattle.piece.specs.Cutting.{size, job_of}
 use Rattle.piece.specs.Pieces.{piece}
@@ -28,8 +28,8 @@ returns-then-has-needs g c =
       bytes = refl;
     }
 
-pub slice-bounds-values-end : goal.slice-bounds-values-end
-slice-bounds-values-end g c =
+pub slice_bounds-values-end : goal.slice_bounds-values-end
+slice_bounds-values-end g c =
     let L = c.args.self.now in
     let few : L.columns ≤ 4096 = rw L.many (columns_few L.settings.m L.length L.some 4096 L.short) in
     search rules
@@ -53,5 +53,5 @@ returns g c =
     let e : c.size-needs.result ≡ size g.F.Field.ops L.columns = c.size-needs.ensures in
     record {
       answer = ap Ok e ∙ sym (accepted g.F.Field.ops L c.args.number (length c.args.out.now) c.if-number-lt1.false c.if-number-n.false (subst (λ (n : ℕ). n ≤ length c.args.out.now) e c.if-has-needs.false));
-      bytes = c.write.ensures ∙ ap (λ (n : ℕ). piece g.F.Field.ops L.settings c.args.number c.args.job-number c.args.stamp (job_of L) ++ drop n c.args.out.now) (sym e);
+      bytes = c.write.ensures ∙ ap (λ (n : ℕ). piece g.F.Field.ops L.settings c.args.number c.args.job_number c.args.stamp (job_of L) ++ drop n c.args.out.now) (sym e);
     }

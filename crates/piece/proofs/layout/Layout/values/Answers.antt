@@ -1,9 +1,8 @@
-use Rattle.std.proofs.Common.{◌≡◌, ℕ, ◌+◌, ◌-◌, ◌*◌, ◌<◌, ◌≤◌, length, get_or, take, sym, refl, ap, ◌∙◌, subst, arith, length-take-le, rules}
+use Rattle.std.proofs.Common.{◌≡◌, ℕ, ◌+◌, ◌-◌, ◌*◌, ◌<◌, ◌≤◌, length, take, sym, refl, ap, ◌∙◌, subst, arith, length-take-le}
 use Rattle.std.proofs.lemmas.List.{get_or-take}
 use Rattle.field.proofs.Bounds.{byte_is_a_code}
 use Rattle.field.specs.Rows.{combination}
-use Rattle.piece.specs.Pieces.{value}
-use Rattle.piece.proofs.Ranges.{columns_fit, columns_few}
+use Rattle.piece.proofs.Ranges.{columns_fit}
 use Rattle.piece.proofs.Values.{layout_lawful, combined_value}
 use Rattle.piece.proofs.layout.Layout.values.Goals as goal
 

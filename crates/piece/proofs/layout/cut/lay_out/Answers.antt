@@ -1,4 +1,4 @@
-use Rattle.std.proofs.Common.{◌≡◌, ℕ, ◌+◌, ◌-◌, ◌*◌, ◌<◌, ◌≤◌, length, get_or, sym, ap, ◌∙◌, subst, mul-le-mul, arith, rules}
+use Rattle.std.proofs.Common.{◌≡◌, ℕ, ◌+◌, ◌*◌, ◌<◌, ◌≤◌, length, sym, ◌∙◌, subst, mul-le-mul, arith, rules}
 use Rattle.field.proofs.Parts.{part_length}
 use Rattle.field.proofs.Rows.{row_fits}
 use Rattle.piece.proofs.Laying.{laid_none, laid_next}
@@ -7,14 +7,14 @@ use Rattle.piece.proofs.layout.cut.lay_out.Goals as goal
 pub loop-j-init : goal.loop-j-init
 loop-j-init c = laid_none c.args.m c.args.columns c.args.job.now c.args.cells.now
 
-pub slice-bounds-lay-row-end : goal.slice-bounds-lay-row-end
-slice-bounds-lay-row-end c =
+pub slice_bounds-lay_row-end : goal.slice_bounds-lay_row-end
+slice_bounds-lay_row-end c =
     let h = row_fits c.loop-j.j c.args.m c.args.columns c.loop-j-test.true in
     let k : c.loop-j.j * c.args.columns + c.args.columns ≤ length c.loop-j.cells = omega arith in
     search rules
 
-pub lay-row-requires : goal.lay-row-requires
-lay-row-requires c =
+pub lay_row-requires : goal.lay_row-requires
+lay_row-requires c =
     let h = row_fits c.loop-j.j c.args.m c.args.columns c.loop-j-test.true in
     let room : c.loop-j.j * c.args.columns + c.args.columns ≤ length c.loop-j.cells = omega arith in
     let size = part_length c.loop-j.cells (c.loop-j.j * c.args.columns) c.args.columns room in
@@ -29,8 +29,8 @@ loop-j-preserved c =
     let h = row_fits c.loop-j.j c.args.m c.args.columns c.loop-j-test.true in
     let room : c.loop-j.j * c.args.columns + c.args.columns ≤ length c.loop-j.cells = omega arith in
     let size = part_length c.loop-j.cells (c.loop-j.j * c.args.columns) c.args.columns room in
-    laid_next c.args.m c.args.columns c.args.job.now c.args.cells.now c.loop-j.cells c.lay-row.new.row c.loop-j.j room (c.lay-row.auto.row ∙ size) c.loop-j.invariant
-    (λ k l. c.lay-row.ensures k (subst (λ (n : ℕ). k < n) (sym size) l))
+    laid_next c.args.m c.args.columns c.args.job.now c.args.cells.now c.loop-j.cells c.lay_row.new.row c.loop-j.j room (c.lay_row.auto.row ∙ size) c.loop-j.invariant
+    (λ k l. c.lay_row.ensures k (subst (λ (n : ℕ). k < n) (sym size) l))
 
 pub returns : goal.returns
 returns c =

@@ -1,4 +1,3 @@
-use Rattle.std.proofs.Common.{◌≡◌, length}
 use Rattle.piece.proofs.Laying.{LaidTo}
 use Rattle.piece.proofs.layout.cut.lay_out.Given as goal
 
