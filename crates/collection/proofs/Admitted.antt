@@ -1,5 +1,5 @@
 -- What a header that the reader accepts says. Assumes nothing.
-use Rattle.std.proofs.Common.{◌≡◌, ℕ, ◌^◌, ◌<◌, ◌≤◌, List, sym, subst}
+use Rattle.std.proofs.Common.{ℕ, ◌^◌, ◌<◌, ◌≤◌, List, sym, subst}
 use Rattle.field.specs.Laws.{Ops, Bounds}
 use Rattle.piece.specs.declared.Header.{Header}
 use Rattle.piece.specs.Layouts.{Bytes}

@@ -1,13 +1,12 @@
 -- The rows of the pieces brought back to rows of the job. Assumes nothing.
-use Rattle.std.proofs.Common.{◌≡◌, ℕ, ◌+◌, ◌-◌, ◌*◌, ◌<◌, ◌≤◌, ◌≢◌, List, length, get_or, sym, refl, ap, ◌∙◌, subst, arith}
+use Rattle.std.proofs.Common.{◌≡◌, ℕ, ◌+◌, ◌-◌, ◌*◌, ◌<◌, ◌≤◌, List, length, get_or, sym, refl, ap, ◌∙◌, subst, arith}
 use native.Mathlib.Decide.{dec_lt}
 use Rattle.field.specs.Laws.{Ops, FieldLaws, Bounds}
-use Rattle.field.specs.Sums.{sum}
-use Rattle.algebra.specs.Codes.{Below, Regular, Rows, dot}
+use Rattle.algebra.specs.Codes.{Regular, Rows, dot}
 use Rattle.algebra.specs.Field.{Distinct}
 use Rattle.algebra.specs.Flat.{Eliminated, Grid, cell}
 use Rattle.algebra.proofs.Ring.{sum_same}
-use Rattle.piece.specs.Pieces.{Lawful, entry}
+use Rattle.piece.specs.Pieces.{entry}
 use Rattle.piece.specs.Reading.{count}
 use Rattle.collection.specs.declared.book.Book.{Book}
 use Rattle.collection.specs.Back.{Brought, Entered}

@@ -1,5 +1,5 @@
 -- Coefficients in front of the symbols of each row, and the rows brought back. Assumes nothing.
-use Rattle.std.proofs.Common.{◌≡◌, ℕ, ◌+◌, ◌-◌, ◌*◌, ◌/◌, ◌<◌, ◌≤◌, ◌≢◌, List, length, get_or, sym, refl, ap, ◌∙◌, subst, arith}
+use Rattle.std.proofs.Common.{◌≡◌, ℕ, ◌+◌, ◌-◌, ◌*◌, ◌<◌, ◌≤◌, List, length, get_or, sym, refl, ap, ◌∙◌, subst, arith}
 use native.Mathlib.Decide.{ℕ_discrete, dec_lt}
 use borrow.Rule.Slice.PartMut.{put_mid}
 use Rattle.field.specs.Laws.{Ops}
@@ -9,7 +9,6 @@ use Rattle.algebra.specs.Flat.{cell}
 use Rattle.piece.specs.Pieces.{Lawful, entry}
 use Rattle.piece.specs.Reading.{count}
 use Rattle.collection.specs.declared.book.Book.{Book}
-use Rattle.collection.specs.Back.{Entered}
 use Rattle.collection.specs.Books.{places, stride}
 
 pub book_lawful : (b : Book) → Lawful b.first.settings

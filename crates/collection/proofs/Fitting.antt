@@ -1,5 +1,5 @@
 -- Which job has the pieces of a closed collection: the one that its rows hold, or none. Assumes nothing.
-use Rattle.std.proofs.Common.{◌≡◌, ℕ, ◌+◌, ◌-◌, ◌*◌, ◌/◌, ◌%◌, ◌<◌, ◌≤◌, ◌≢◌, List, length, get_or, sym, refl, ap, ◌∙◌, subst, ap₂, mod-lt, div-add-mod', arith}
+use Rattle.std.proofs.Common.{◌≡◌, ℕ, ◌+◌, ◌-◌, ◌*◌, ◌/◌, ◌%◌, ◌<◌, ◌≤◌, List, length, get_or, sym, ap, ◌∙◌, subst, ap₂, mod-lt, div-add-mod', arith}
 use native.Mathlib.Decide.{dec_lt}
 use lib.Arith.{digits_div, digits_mod}
 use Rattle.std.proofs.lemmas.List.{get_or_past}
@@ -14,9 +14,9 @@ use Rattle.piece.proofs.Exact.{byte_at}
 use Rattle.piece.proofs.Octets.{get_d_listed, length_listed, listed_is}
 use Rattle.piece.proofs.Ranges.{column_within}
 use Rattle.collection.specs.declared.book.Book.{Book}
-use Rattle.collection.specs.Back.{Symbol, Whole, job_in}
+use Rattle.collection.specs.Back.{Whole, job_in}
 use Rattle.collection.specs.Books.{SymbolsBelow, in_closed, places, solution, solved_at}
-use Rattle.collection.specs.Collected.{Collected, For, Taken, piece_at}
+use Rattle.collection.specs.Collected.{Collected, For, piece_at}
 use Rattle.collection.specs.HandingOver.{Fits, HasPiece}
 use Rattle.collection.proofs.Books.{closed_many, closed_piece}
 use Rattle.collection.proofs.Bringing.{full_differ, full_within}

@@ -17,7 +17,7 @@ use Rattle.piece.proofs.Octets.{length_listed, get_d_listed, listed_is}
 use Rattle.collection.specs.declared.book.Book.{Book}
 use Rattle.collection.specs.Adding.{Alike}
 use Rattle.collection.specs.Books.{Follows, Grown, SymbolsBelow, head_of, in_open, places, stride, taken_at}
-use Rattle.collection.specs.Collected.{Collected, For, Taken, nothing, taking, with_piece}
+use Rattle.collection.specs.Collected.{For, Taken, nothing, taking, with_piece}
 use Rattle.collection.specs.Numbering.{Differing, Numbered}
 use Rattle.collection.proofs.Books.{map_same}
 use Rattle.collection.proofs.Laying.{Laid}

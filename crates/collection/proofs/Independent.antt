@@ -1,9 +1,8 @@
 -- The rows of any m pieces with different numbers are independent. Assumes nothing.
-use Rattle.std.proofs.Common.{◌≡◌, ℕ, ◌+◌, ◌-◌, ◌*◌, ◌<◌, ◌≤◌, Bool, true, false, cond, eqb, ◌≢◌, List, length, get_or, sym, refl, ap, ◌∙◌, subst, arith}
-use native.Mathlib.Decide.{dec_lt}
+use Rattle.std.proofs.Common.{◌≡◌, ℕ, ◌+◌, ◌-◌, ◌<◌, ◌≤◌, Bool, true, false, cond, eqb, sym, refl, ◌∙◌, arith}
 use Rattle.field.specs.Laws.{Ops, FieldLaws, Bounds}
 use Rattle.field.proofs.Bounds.{rows_fit}
-use Rattle.algebra.specs.Codes.{Below, Points, Regular, Rows, Solves, dot, power}
+use Rattle.algebra.specs.Codes.{Below, Regular, Rows, dot, power}
 use Rattle.algebra.specs.Field.{Distinct}
 use Rattle.algebra.proofs.Codes.{dot_below}
 use Rattle.algebra.proofs.OnCodes.{cauchy_regular, one_solution, vandermonde_regular}

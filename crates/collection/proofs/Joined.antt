@@ -1,9 +1,8 @@
 -- What joining means: any m pieces of a job bring it back, and no other job is made up. Assumes nothing.
-use Rattle.std.proofs.Common.{◌≡◌, ℕ, ◌+◌, ◌-◌, ◌*◌, ◌/◌, ◌^◌, ◌<◌, ◌≤◌, Bool, true, false, ◌≢◌, List, [], ◌∷◌, ◌++◌, map, length, get_or, take, drop, Ok, Err, Result, sym, refl, ap, ◌∙◌, subst, ap₂, arith, length-take-le}
-use native.Mathlib.Decide.{ℕ_discrete, dec_lt}
+use Rattle.std.proofs.Common.{◌≡◌, ℕ, ◌^◌, ◌<◌, ◌≤◌, ◌≢◌, List, [], ◌++◌, length, get_or, take, drop, Ok, Err, Result, sym, refl, ap, ◌∙◌, subst, ap₂, arith, length-take-le}
+use native.Mathlib.Decide.{ℕ_discrete}
 use Rattle.std.proofs.lemmas.List.{get_or-map, get_or-take, length-map}
 use Rattle.field.specs.Laws.{Ops, FieldLaws, Bounds}
-use Rattle.algebra.specs.Field.{Distinct}
 use Rattle.piece.specs.declared.Header.{Header}
 use Rattle.piece.specs.declared.Settings.{Settings}
 use Rattle.piece.specs.declared.fault.ReadFault.{ReadFault}
@@ -25,9 +24,8 @@ use Rattle.collection.specs.declared.fault.HandOverFault.TheVariants as over
 use Rattle.collection.specs.declared.fault.JoinFault.{JoinFault}
 use Rattle.collection.specs.declared.fault.JoinFault.TheVariants as fault
 use Rattle.collection.specs.Adding.{Alike, RefusesPiece, Takes}
-use Rattle.collection.specs.Closing.{Closes, RefusesClose}
 use Rattle.collection.specs.Collected.{Collected, For, Taken, first_of, nothing, field_numbers_of, piece_at, read_of}
-use Rattle.collection.specs.HandingOver.{Fits, Handed, HasPiece, RefusesHandOver}
+use Rattle.collection.specs.HandingOver.{Fits, Handed, HasPiece}
 use Rattle.collection.specs.Joining.{AnyMBringBack, Chosen, Feeds, Joins, NoJobIsMadeUp, fed}
 
 -- no refusal of the reader applies to what it accepts

@@ -1,14 +1,13 @@
 -- The symbols of a job in the rows of a closed collection. Assumes nothing.
-use Rattle.std.proofs.Common.{◌≡◌, ℕ, ◌+◌, ◌-◌, ◌*◌, ◌/◌, ◌%◌, ◌<◌, ◌≤◌, Bool, true, false, cond, ltb, ◌≢◌, List, length, get_or, set, sym, refl, ap, ◌∙◌, subst, ap₂, mod-lt, div-lt_iff_lt-mul, div-add-mod', arith, length-set, get_or-set_other, get_or-set_same, ltb-true, lt-ltb}
+use Rattle.std.proofs.Common.{◌≡◌, ℕ, ◌+◌, ◌-◌, ◌*◌, ◌/◌, ◌%◌, ◌<◌, ◌≤◌, Bool, true, false, cond, ltb, ◌≢◌, List, length, get_or, set, sym, refl, ap, ◌∙◌, subst, mod-lt, div-lt_iff_lt-mul, div-add-mod', arith, length-set, get_or-set_other, get_or-set_same, ltb-true, lt-ltb}
 use native.Mathlib.Decide.{dec_lt, ℕ_discrete}
-use lib.Arith.{digits_div, digits_mod, digits_lt}
+use lib.Arith.{digits_div, digits_mod}
 use Rattle.field.proofs.Rows.{row_fits}
 use Rattle.algebra.specs.Flat.{cell}
-use Rattle.piece.specs.Pieces.{listed}
 use Rattle.piece.specs.Reading.{count}
 use Rattle.piece.proofs.Octets.{listed_is}
 use Rattle.collection.specs.declared.book.Book.{Book}
-use Rattle.collection.specs.Back.{InRow, Symbol, Whole, full_length_at, job_in}
+use Rattle.collection.specs.Back.{InRow, Symbol, full_length_at, job_in}
 use Rattle.collection.specs.Books.{places, solution, stride}
 
 -- a symbol at the place j belongs to the job where its column is one of the first

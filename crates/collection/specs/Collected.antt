@@ -1,5 +1,5 @@
 -- What a collection means: its field, its work and the pieces that it has taken. Assumes nothing.
-use Rattle.std.specs.Prelude.{◌≡◌, ℕ, ◌<◌, ◌≤◌, List, [], ◌∷◌, ◌++◌, length, drop, slice_index_or}
+use Rattle.std.specs.Prelude.{◌≡◌, ℕ, List, [], ◌∷◌, ◌++◌, drop, slice_index_or}
 use Rattle.field.specs.Laws.{Ops}
 use Rattle.piece.specs.declared.Header.{Header}
 use Rattle.piece.specs.Bits.{value_in}

@@ -1,5 +1,5 @@
 -- What joining a list of pieces answers and writes. Assumes nothing.
-use Rattle.std.specs.Prelude.{◌≡◌, ℕ, ◌^◌, ◌<◌, ◌≤◌, ◌≢◌, List, [], ◌++◌, map, length, take, drop, Ok, Err, Result, slice_index_or}
+use Rattle.std.specs.Prelude.{◌≡◌, ℕ, ◌^◌, ◌<◌, ◌≤◌, List, [], ◌++◌, map, length, take, drop, Ok, Err, Result, slice_index_or}
 use Rattle.std.specs.Borrow.{Bor}
 use Rattle.field.specs.Laws.{Ops}
 use Rattle.algebra.specs.Field.{Distinct}

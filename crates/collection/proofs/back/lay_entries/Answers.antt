@@ -1,19 +1,19 @@
-use Rattle.std.proofs.Common.{◌≡◌, ℕ, ◌+◌, ◌-◌, ◌*◌, ◌<◌, ◌≤◌, List, length, get_or, sym, ap, ◌∙◌, subst, arith, rules}
+use Rattle.std.proofs.Common.{◌≡◌, ℕ, ◌+◌, ◌-◌, ◌*◌, ◌≤◌, List, length, sym, ap, ◌∙◌, subst, arith, rules}
 use borrow.Rule.Slice.PartMut.{put_mid}
 use Rattle.field.proofs.Parts.{part_length}
 use Rattle.field.proofs.Rows.{row_fits}
 use Rattle.piece.specs.declared.Settings.{Settings}
 use Rattle.piece.specs.Pieces.{Lawful, entry as entry_of}
 use Rattle.piece.specs.Reading.{count}
-use Rattle.collection.specs.Books.{places, stride}
+use Rattle.collection.specs.Books.{places}
 use Rattle.collection.proofs.Entering.{EnteredTo, book_lawful, entered_none, entered_more}
 use Rattle.collection.proofs.back.lay_entries.Goals as goal
 
 pub loop-t-init : goal.loop-t-init
 loop-t-init g c = entered_none g.F.Field.ops c.args.book.now c.args.rows.now
 
-pub slice-bounds-entries-end : goal.slice-bounds-entries-end
-slice-bounds-entries-end g c =
+pub slice_bounds-entries-end : goal.slice_bounds-entries-end
+slice_bounds-entries-end g c =
     let b = c.args.book.now in
     let m : ℕ = c.needs-m.result in
     let n : ℕ = c.columns.result in

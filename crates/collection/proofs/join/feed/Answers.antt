@@ -1,4 +1,4 @@
-use Rattle.std.proofs.Common.{◌≡◌, ℕ, ◌+◌, ◌<◌, List, [], length, get_or, sym, refl, ap, ◌∙◌, subst, arith}
+use Rattle.std.proofs.Common.{◌≡◌, ℕ, ◌<◌, List, [], length, get_or, sym, refl, ap, ◌∙◌, subst, arith}
 use Rattle.piece.specs.Layouts.{Bytes}
 use Rattle.collection.specs.Adding.{RefusesPiece, Takes}
 use Rattle.collection.specs.Collected.{Collected, read_of, with_piece}
@@ -18,7 +18,7 @@ loop-at-preserved g c =
     let all : List (List ℕ) = bytes_in c.args.pieces.now in
     let at : ℕ = c.loop-at.at in
     let inv = c.loop-at.invariant in
-    let done = c.in-default.ensures in
+    let done = c.in_default.ensures in
     let l : at < length c.args.pieces.now = c.loop-at-test.true in
     let e = bytes_at c.args.pieces.now at (record { ref_ptr = (0, 0); now = [] }) refl l in
     let takes : Takes K (fed K room all at) (get_or all at []) = subst (λ (C : Collected). Takes K C (get_or all at [])) inv.2 (subst (Takes K (opened c.loop-at.collection)) (sym e) done.answer) in

@@ -8,10 +8,10 @@ returns g c =
     let room = length c.args.work.now in
     let all = bytes_in c.args.pieces.now in
     let before = c.args.job.now in
-    let after = c.join-in-joined.new.job in
+    let after = c.join_in-joined.new.job in
     record {
-      answer = c.join-in-joined.ensures;
-      back = any_m_bring_back g.met.F.Field.laws g.met.F.Field.bounds room all before after c.join-in-joined.result c.join-in-joined.ensures;
-      none = no_job_is_made_up g.met.F.Field.laws g.met.F.Field.bounds room all before after c.join-in-joined.result c.join-in-joined.ensures;
+      answer = c.join_in-joined.ensures;
+      back = any_m_bring_back g.met.F.Field.laws g.met.F.Field.bounds room all before after c.join_in-joined.result c.join_in-joined.ensures;
+      none = no_job_is_made_up g.met.F.Field.laws g.met.F.Field.bounds room all before after c.join_in-joined.result c.join_in-joined.ensures;
       wiped = search rules;
     }

@@ -7,31 +7,31 @@ use Rattle.collection.specs.Opened.{opened}
 use Rattle.collection.proofs.Feeding.{bytes_many}
 use Rattle.collection.proofs.join.join_in.Goals as goal
 
-pub returns-in-Err-can-close : goal.returns-in-Err-can-close
-returns-in-Err-can-close g c =
+pub returns-in-Err-can_close : goal.returns-in-Err-can_close
+returns-in-Err-can_close g c =
     let K = g.F.Field.ops in
     let all : List (List ℕ) = bytes_in c.args.pieces.now in
     let n = bytes_many c.args.pieces.now in
     let room : (opened c.start-collection.result).room ≡ length c.args.work.now = ap (λ (C : Collected). C.room) c.start-collection.ensures.fresh in
-    let done = c.in-default.ensures.fed in
+    let done = c.in_default.ensures.fed in
     let same : opened c.feed.new.collection ≡ fed K (length c.args.work.now) all (length c.args.pieces.now) = done.1 ∙ ap₂ (λ (r k : ℕ). fed K r all k) room n in (
       sym n,
       subst (Feeds K (length c.args.work.now) all) n (subst (λ (r : ℕ). Feeds K r all (length all)) room done.0),
-      subst (λ (C : Collected). RefusesClose K C c.in-Err-can-close.fault) same c.in-Err-can-close.ensures,
+      subst (λ (C : Collected). RefusesClose K C c.in-Err-can_close.fault) same c.in-Err-can_close.ensures,
       refl,
     )
 
-pub returns-in-Err-can-hand-over : goal.returns-in-Err-can-hand-over
-returns-in-Err-can-hand-over g c =
+pub returns-in-Err-can_hand_over : goal.returns-in-Err-can_hand_over
+returns-in-Err-can_hand_over g c =
     let K = g.F.Field.ops in
     let all : List (List ℕ) = bytes_in c.args.pieces.now in
     let n = bytes_many c.args.pieces.now in
     let room : (opened c.start-collection.result).room ≡ length c.args.work.now = ap (λ (C : Collected). C.room) c.start-collection.ensures.fresh in
-    let done = c.in-default.ensures.fed in
+    let done = c.in_default.ensures.fed in
     let same : opened c.feed.new.collection ≡ fed K (length c.args.work.now) all (length c.args.pieces.now) = done.1 ∙ ap₂ (λ (r k : ℕ). fed K r all k) room n in (
       sym n,
       subst (Feeds K (length c.args.work.now) all) n (subst (λ (r : ℕ). Feeds K r all (length all)) room done.0),
-      subst (Closes K) same c.in-default-can-close.ensures,
-      subst (λ (C : Collected). RefusesHandOver K C (length c.args.job.now) c.in-Err-can-hand-over.fault) (c.close-closed.ensures.same ∙ same) c.in-Err-can-hand-over.ensures,
+      subst (Closes K) same c.in_default-can_close.ensures,
+      subst (λ (C : Collected). RefusesHandOver K C (length c.args.job.now) c.in-Err-can_hand_over.fault) (c.close-closed.ensures.same ∙ same) c.in-Err-can_hand_over.ensures,
       refl,
     )

@@ -1,7 +1,7 @@
-use Rattle.std.proofs.Common.{◌≡◌, ℕ, ◌+◌, ◌-◌, ◌*◌, ◌<◌, ◌≤◌, length, sym, refl, ap, ◌∙◌, subst, arith, rules}
+use Rattle.std.proofs.Common.{◌≡◌, ℕ, ◌+◌, ◌-◌, ◌*◌, ◌≤◌, length, refl, ap, ◌∙◌, arith, rules}
 use Rattle.piece.specs.Reading.{count}
 use Rattle.piece.proofs.Laying.{front_length}
-use Rattle.collection.specs.Books.{places, stride}
+use Rattle.collection.specs.Books.{places}
 use Rattle.collection.proofs.Closing.{after_below, after_length, closed_same, closes_field, closes_full, front_below, front_size, row_fits_scratch, rows_fit}
 use Rattle.collection.proofs.open.Open.close.Goals as goal
 
@@ -9,22 +9,22 @@ use Rattle.collection.proofs.open.Open.close.Goals as goal
 front : (m n places count : ℕ) → m ≡ places → n ≡ count → m * (m + n) - 0 ≡ places * (places + count)
 front m n places count em en = omega arith ∙ (ap (λ (x : ℕ). x * (x + n)) em ∙ ap (λ (x : ℕ). places * (places + x)) en)
 
-pub slice-bounds-bring-back-end : goal.slice-bounds-bring-back-end
-slice-bounds-bring-back-end g c =
+pub slice_bounds-bring_back-end : goal.slice_bounds-bring_back-end
+slice_bounds-bring_back-end g c =
     let o = c.args.self in
     let e = front c.needs-m.result c.columns.result (places o.book) (count o.book.first) c.needs-m.ensures c.columns.ensures in
     let full = closes_full o.book o.work.now c.requires in
     let k : c.needs-m.result * (c.needs-m.result + c.columns.result) ≤ length o.work.now = omega (arith, rows_fit o.book, o.room (omega (arith, o.book.some))) in
     search rules
 
-pub slice-bounds-row-end : goal.slice-bounds-row-end
-slice-bounds-row-end g c =
+pub slice_bounds-row-end : goal.slice_bounds-row-end
+slice_bounds-row-end g c =
     let o = c.args.self in
     let k : c.needs-m.result + c.columns.result ≤ 4112 = omega (arith, row_fits_scratch o.book, c.needs-m.ensures, c.columns.ensures) in
     search rules
 
-pub bring-back-requires : goal.bring-back-requires
-bring-back-requires g c =
+pub bring_back-requires : goal.bring_back-requires
+bring_back-requires g c =
     let o = c.args.self in
     let b = o.book in
     let e = front c.needs-m.result c.columns.result (places b) (count b.first) c.needs-m.ensures c.columns.ensures in
@@ -42,21 +42,16 @@ bring-back-requires g c =
       row = front_length 4112 (c.needs-m.result + c.columns.result) short ∙ (ap (λ (x : ℕ). x + c.columns.result) c.needs-m.ensures ∙ ap (λ (x : ℕ). places b + x) c.columns.ensures);
     }
 
-pub invariant-of-result : goal.invariant-of-result
-invariant-of-result g c =
+pub invariant_of-result : goal.invariant_of-result
+invariant_of-result g c =
     let o = c.args.self in
     let b = o.book in
     let e = front c.needs-m.result c.columns.result (places b) (count b.first) c.needs-m.ensures c.columns.ensures in
     let full = closes_full b o.work.now c.requires in
     let p : ℕ = c.needs-m.result * (c.needs-m.result + c.columns.result) - 0 in
     let fits : p ≤ length o.work.now = omega (arith, rows_fit b, o.room (omega (arith, b.some))) in
-    let long = after_length b o.work.now p e fits c.bring-back.new.rows c.bring-back.auto.rows in (
-      full,
-      (
-        omega (arith, long, o.room (omega (arith, b.some))),
-        (after_below b o.work.now p e fits c.bring-back.new.rows c.bring-back.auto.rows g.F.Field.ops full (closes_field b o.work.now c.requires) c.bring-back.ensures.brought, tt),
-      ),
-    )
+    let long = after_length b o.work.now p e fits c.bring_back.new.rows c.bring_back.auto.rows in
+    record { full = full; room = omega (arith, long, o.room (omega (arith, b.some))); codes = after_below b o.work.now p e fits c.bring_back.new.rows c.bring_back.auto.rows g.F.Field.ops full (closes_field b o.work.now c.requires) c.bring_back.ensures.brought }
 
 pub returns : goal.returns
 returns g c =
@@ -68,5 +63,5 @@ returns g c =
     let fits : p ≤ length o.work.now = omega (arith, rows_fit b, o.room (omega (arith, b.some))) in
     record {
       named = refl;
-      same = closed_same b o.work.now p e fits c.bring-back.new.rows c.bring-back.auto.rows g.F.Field.ops full (closes_field b o.work.now c.requires) c.bring-back.ensures.brought;
+      same = closed_same b o.work.now p e fits c.bring_back.new.rows c.bring_back.auto.rows g.F.Field.ops full (closes_field b o.work.now c.requires) c.bring_back.ensures.brought;
     }

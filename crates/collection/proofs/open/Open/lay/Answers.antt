@@ -1,4 +1,4 @@
-use Rattle.std.proofs.Common.{◌≡◌, ◌+◌, ◌*◌, ◌<◌, ◌≤◌, length, get_or, sym, refl, ◌∙◌, subst, arith, length-set, rules}
+use Rattle.std.proofs.Common.{◌+◌, ◌*◌, ◌≤◌, get_or, sym, refl, subst, arith, length-set}
 use Rattle.collection.specs.declared.book.Book.{Book}
 use Rattle.collection.specs.Books.{stride}
 use Rattle.collection.proofs.Growing.{set_keeps}
@@ -17,14 +17,12 @@ loop-k-preserved c =
           (omega (arith, inv.2.size, c.requires.room, c.loop-k-test.true)) inv.2,
     )
 
-pub invariant-of-self : goal.invariant-of-self
-invariant-of-self c =
+pub invariant_of-self : goal.invariant_of-self
+invariant_of-self c =
     let b = c.loop-k.self.book in
     let work = c.loop-k.self.work.now in
-    let behind : b.have * stride b ≤ c.args.from = subst (λ (x : Book). x.have * stride x ≤ c.args.from) (sym c.loop-k.invariant.0) c.requires.behind in (
-      λ l. let r = c.loop-k.self.room l in let s = length-set work (c.args.from + c.loop-k.k) (get_or c.args.symbols.now c.loop-k.k 0) in omega arith,
-      (set_keeps b work (c.args.from + c.loop-k.k) (get_or c.args.symbols.now c.loop-k.k 0) (omega arith) c.loop-k.self.codes, tt),
-    )
+    let behind : b.have * stride b ≤ c.args.from = subst (λ (x : Book). x.have * stride x ≤ c.args.from) (sym c.loop-k.invariant.0) c.requires.behind in
+    record { room = λ l. let r = c.loop-k.self.room l in let s = length-set work (c.args.from + c.loop-k.k) (get_or c.args.symbols.now c.loop-k.k 0) in omega arith; codes = set_keeps b work (c.args.from + c.loop-k.k) (get_or c.args.symbols.now c.loop-k.k 0) (omega arith) c.loop-k.self.codes }
 
 pub returns : goal.returns
 returns c =

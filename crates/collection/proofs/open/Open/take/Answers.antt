@@ -1,7 +1,6 @@
-use Rattle.std.proofs.Common.{◌≡◌, ℕ, ◌+◌, ◌*◌, ◌<◌, ◌≤◌, length, get_or, sym, refl, ap, ◌∙◌, subst, arith, rules}
+use Rattle.std.proofs.Common.{◌≡◌, ℕ, ◌+◌, ◌*◌, length, refl, ap, ◌∙◌, arith, rules}
 use Rattle.std.proofs.lemmas.List.{places}
 use Rattle.piece.specs.Reading.{count}
-use Rattle.collection.specs.Books.{stride}
 use Rattle.collection.proofs.Growing.{next_behind, next_fits, took}
 use Rattle.collection.proofs.open.Open.take.Goals as goal
 
@@ -18,8 +17,8 @@ lay-requires g c =
       room = omega (arith, from, full, c.requires.room, next_fits b h c.requires.follows c.requires.lawful c.requires.short);
     }
 
-pub invariant-of-self : goal.invariant-of-self
-invariant-of-self g c =
+pub invariant_of-self : goal.invariant_of-self
+invariant_of-self g c =
     let b = c.args.self.now.book in
     let h = c.args.header.now in
     let size : length b.numbers ≡ 16 = search rules in
@@ -27,7 +26,7 @@ invariant-of-self g c =
     _ c.have.result c.width.result (length c.args.symbols.now) c.requires.follows size c.requires.field c.requires.body c.args.self.now.codes
     c.width.ensures c.have.ensures c.requires.symbols refl c.unpack.auto.values c.unpack.ensures.each
     (record { size = c.lay.ensures.size; before = c.lay.ensures.before; laid = c.lay.ensures.laid }) c.lay.ensures.book c.with-self.ensures in
-    (λ _. omega (arith, t.room, c.requires.room), (t.codes, tt))
+    record { room = λ _. omega (arith, t.room, c.requires.room); codes = t.codes }
 
 pub returns : goal.returns
 returns g c =
