@@ -3,15 +3,17 @@ ghost use Rattle.std.specs.Prelude.{◌≡◌, ℕ, ◌-◌, ◌≤◌, List, []
 ghost use Rattle.field.specs.Gf256.{gf256};
 ghost use Rattle.field.specs.Mod257.{mod257};
 ghost use Rattle.piece.specs.Reading.{number as read_number};
-ghost use Rattle.collection.specs.Adding.{number as add-number};
-ghost use Rattle.collection.specs.Closing.{number as close-number};
-ghost use Rattle.collection.specs.HandingOver.{number as hand-over-number};
-ghost use Rattle.collection.specs.Joining.{bytes_in, number as join-number};
+ghost use Rattle.collection.specs.Adding.{number as add_number};
+ghost use Rattle.collection.specs.Closing.{number as close_number};
+ghost use Rattle.collection.specs.HandingOver.{number as hand_over_number};
+ghost use Rattle.collection.specs.Joining.{bytes_in, number as join_number};
 ghost use Rattle.capi.specs.Joined.{AnswersJoin, parted};
 
 use collection::fault::{AddFault, CloseFault, HandOverFault, JoinFault};
 use collection::join::join;
 use field::Field;
+use field::gf256::Gf256;
+use field::mod257::Mod257;
 use piece::fault::ReadFault;
 
 // More pieces than this are not looked at: the last of them is refused in any case.
@@ -36,7 +38,7 @@ fn read_refusal(fault: ReadFault) -> i32
 }
 
 fn add_refusal(fault: AddFault) -> i32
-    ensures { result ≡ neg_ℤ (pos (add-number fault)) }
+    ensures { result ≡ neg_ℤ (pos (add_number fault)) }
 {
     match fault {
         AddFault::Work { has: _ } => -5,
@@ -49,7 +51,7 @@ fn add_refusal(fault: AddFault) -> i32
 }
 
 fn close_refusal(fault: CloseFault) -> i32
-    ensures { result ≡ neg_ℤ (pos (close-number fault)) }
+    ensures { result ≡ neg_ℤ (pos (close_number fault)) }
 {
     match fault {
         CloseFault::Field { has: _ } => -7,
@@ -58,7 +60,7 @@ fn close_refusal(fault: CloseFault) -> i32
 }
 
 fn hand_over_refusal(fault: HandOverFault) -> i32
-    ensures { result ≡ neg_ℤ (pos (hand-over-number fault)) }
+    ensures { result ≡ neg_ℤ (pos (hand_over_number fault)) }
 {
     match fault {
         HandOverFault::Field { has: _ } => -7,
@@ -69,7 +71,7 @@ fn hand_over_refusal(fault: HandOverFault) -> i32
 
 // The number of a refusal, made negative.
 fn join_refusal(fault: JoinFault) -> i32
-    ensures { result ≡ neg_ℤ (pos (join-number fault)) }
+    ensures { result ≡ neg_ℤ (pos (join_number fault)) }
 {
     match fault {
         JoinFault::Add { at: _, fault } => add_refusal(fault),
@@ -121,7 +123,7 @@ pub extern "C" fn jobvault_join_gf256(
     ensures answer { AnswersJoin gf256 (length work.old) each pieces.now job.old job.new result }
     ensures wiped { work.new ≡ replicate (length work.old) 0 }
 {
-    join_for::<field::gf256::Gf256>(pieces, each, work, job)
+    join_for::<Gf256>(pieces, each, work, job)
 }
 
 // Brings a job back over the integers modulo 257.
@@ -135,5 +137,5 @@ pub extern "C" fn jobvault_join_mod257(
     ensures answer { AnswersJoin mod257 (length work.old) each pieces.now job.old job.new result }
     ensures wiped { work.new ≡ replicate (length work.old) 0 }
 {
-    join_for::<field::mod257::Mod257>(pieces, each, work, job)
+    join_for::<Mod257>(pieces, each, work, job)
 }

@@ -3,14 +3,18 @@
 ghost use Rattle.std.specs.Prelude.{◌≡◌, ℕ, min, length, pos, neg_ℤ};
 ghost use Rattle.field.specs.Gf256.{gf256};
 ghost use Rattle.field.specs.Mod257.{mod257};
-ghost use Rattle.piece.specs.Cutting.{cutting, number as refusal-number, written};
+ghost use Rattle.piece.specs.Cutting.{cutting, number as refusal_number, written};
 ghost use Rattle.piece.specs.Pieces.{piece};
 ghost use Rattle.capi.specs.Answered.{answered, asked};
 
 use field::Field;
+use field::gf256::Gf256;
+use field::mod257::Mod257;
 use piece::Settings;
 use piece::fault::CutFault;
 use piece::layout::cut::cut;
+
+pub mod join;
 
 // A number that no byte holds becomes 255, which is out of every range too; so it is refused and not taken for another.
 fn narrow(x: u32) -> u8
@@ -21,7 +25,7 @@ fn narrow(x: u32) -> u8
 
 // The number of a refusal, made negative.
 fn refusal(fault: CutFault) -> i32
-    ensures { result ≡ neg_ℤ (pos (refusal-number fault)) }
+    ensures { result ≡ neg_ℤ (pos (refusal_number fault)) }
 {
     match fault {
         CutFault::Settings {
@@ -75,7 +79,7 @@ pub extern "C" fn jobvault_cut_gf256(
     ensures answer { result ≡ answered (cutting gf256 (asked rows m n) job.now number (length out.old)) }
     ensures bytes { out.new ≡ written (cutting gf256 (asked rows m n) job.now number (length out.old)) (piece gf256 (asked rows m n) number job_number stamp job.now) out.old }
 {
-    cut_for::<field::gf256::Gf256>(rows, m, n, number, job_number, stamp, job, out)
+    cut_for::<Gf256>(rows, m, n, number, job_number, stamp, job, out)
 }
 
 // Cuts one piece of a job over the integers modulo 257.
@@ -93,5 +97,5 @@ pub extern "C" fn jobvault_cut_mod257(
     ensures answer { result ≡ answered (cutting mod257 (asked rows m n) job.now number (length out.old)) }
     ensures bytes { out.new ≡ written (cutting mod257 (asked rows m n) job.now number (length out.old)) (piece mod257 (asked rows m n) number job_number stamp job.now) out.old }
 {
-    cut_for::<field::mod257::Mod257>(rows, m, n, number, job_number, stamp, job, out)
+    cut_for::<Mod257>(rows, m, n, number, job_number, stamp, job, out)
 }

@@ -39,7 +39,7 @@ fn code_in(word: &String, field: FieldName) -> Result<u16, Problem>
 }
 
 fn verb_in(word: &String) -> Result<Verb, Problem> {
-    if word == "--help" || word == "-h" {
+    if word.as_str() == "--help" || word.as_str() == "-h" {
         return Ok(Verb::Help);
     }
     match Verb::named(word.as_str()) {

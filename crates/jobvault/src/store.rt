@@ -8,7 +8,7 @@ use std::path::Path;
 use std::{fs, io};
 
 fn bytes_of(rt: &HostRuntime, file: &String) -> io::Result<Vec<u8>> {
-    if file == "-" {
+    if file.as_str() == "-" {
         let mut bytes = Vec::new(rt.alloc());
         rt.stdin().read_to_end(&mut bytes)?;
         return Ok(bytes);
@@ -26,7 +26,7 @@ pub fn job(rt: &HostRuntime, file: &String) -> Result<Vec<u8>, Problem> {
 
 // The name that the pieces of a file begin with.
 pub fn name_of(heap: Global, file: &String) -> Result<String, Problem> {
-    if file == "-" {
+    if file.as_str() == "-" {
         return Ok(String::from_str(heap, "stdin")?);
     }
     match Path::new(file.as_str()).file_name() {

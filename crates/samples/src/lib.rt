@@ -1,6 +1,8 @@
 #![tactic(auto)]
 // Examples of the libraries at work, proved and run.
 #[cfg(test)]
+mod joined;
+#[cfg(test)]
 mod plain;
 
 #[cfg(test)]

@@ -7,7 +7,7 @@ use Rattle.capi.proofs.cut_for.Goals as goal
 pub returns-in-Ok : goal.returns-in-Ok
 returns-in-Ok g c =
     let K = g.F.Field.ops in
-    let t = carried K c.args.rows c.args.m c.args.n c.args.number c.args.job-number c.args.stamp c.args.job.now c.args.out.now c.cut.new.out
+    let t = carried K c.args.rows c.args.m c.args.n c.args.number c.args.job_number c.args.stamp c.args.job.now c.args.out.now c.cut.new.out
     c.narrow.result c.narrow-2.result c.narrow-3.result c.narrow-4.result c.cut.result
     c.narrow.ensures c.narrow-2.ensures c.narrow-3.ensures c.narrow-4.ensures c.cut.ensures.answer c.cut.ensures.bytes in
     let few : c.in-Ok.len ≤ 4618 = short_piece K g.met.F.Field.bounds (asked c.narrow.result c.narrow-2.result c.narrow-3.result) c.args.job.now
@@ -20,7 +20,7 @@ returns-in-Ok g c =
 pub returns-in-Err : goal.returns-in-Err
 returns-in-Err g c =
     let K = g.F.Field.ops in
-    let t = carried K c.args.rows c.args.m c.args.n c.args.number c.args.job-number c.args.stamp c.args.job.now c.args.out.now c.cut.new.out
+    let t = carried K c.args.rows c.args.m c.args.n c.args.number c.args.job_number c.args.stamp c.args.job.now c.args.out.now c.cut.new.out
     c.narrow.result c.narrow-2.result c.narrow-3.result c.narrow-4.result c.cut.result
     c.narrow.ensures c.narrow-2.ensures c.narrow-3.ensures c.narrow-4.ensures c.cut.ensures.answer c.cut.ensures.bytes in
     let fits : SFits w32 c.refusal.result = search rules in

@@ -12,8 +12,8 @@ loop-n-preserved g c =
     parted_more c.args.each c.args.pieces.now c.loop-n.n c.loop-n.list c.loop-n.rest.now c.part.result.1.now c.part.result.0
     c.loop-n-test.true c.if-rest-gt0.true c.part.ensures.front c.part.ensures.back c.loop-n.invariant
 
-pub overflow-cast-result : goal.overflow-cast-result
-overflow-cast-result g c =
+pub overflow_cast-result : goal.overflow_cast-result
+overflow_cast-result g c =
     let short : c.in-Ok.len ≤ 4096 = joined_short g.F.Field.ops (length c.args.work.now) (bytes_in (take (c.loop-n.n - 0) c.loop-n.list)) c.args.job.now c.join.new.job c.in-Ok.len c.in-Ok.ensures.answer in
     search rules
 
@@ -51,12 +51,12 @@ returns-in-Err g c =
       | then-loop-n-test+else-rest-gt0 w ↦ no_rest c.args.each c.args.pieces.now n list c.loop-n.rest.now w.if-rest-gt0.false c.loop-n.invariant
       | else-loop-n-test w ↦ full_list c.args.each c.args.pieces.now n list c.loop-n.rest.now w.loop-n-test.false c.loop-n.invariant
     ] in
-    let fits : SFits w32 c.join-refusal.result = search rules in
+    let fits : SFits w32 c.join_refusal.result = search rules in
     record {
       answer = record {
         result = Err c.in-Err.fault;
         joins = subst (λ (ps : List (List ℕ)). Joins K room ps c.args.job.now c.join.new.job (Err c.in-Err.fault)) parts c.in-Err.ensures.answer;
-        answer = to_z-of_z w32 c.join-refusal.result fits ∙ c.join-refusal.ensures;
+        answer = to_z-of_z w32 c.join_refusal.result fits ∙ c.join_refusal.ensures;
       };
       wiped = c.in-Err.ensures.wiped;
     }

@@ -5,7 +5,7 @@ use Rattle.capi.proofs.join.part.Goals as goal
 pub returns-else-each-bytes : goal.returns-else-each-bytes
 returns-else-each-bytes c =
     let bytes = c.args.bytes.now in
-    let whole = c.split-at-else-each-bytes.ensures in
+    let whole = c.split_at-else-each-bytes.ensures in
     record {
       front = whole.front ∙ (take_all (length bytes) bytes (omega arith) ∙ sym (take_all c.args.each bytes c.if-each-bytes.false));
       back = whole.back ∙ (drop_all (length bytes) bytes (omega arith) ∙ sym (drop_all c.args.each bytes c.if-each-bytes.false));
