@@ -1,5 +1,5 @@
 -- What holds of every command that is carried out. Assumes nothing.
-use Rattle.std.specs.Prelude.{ℕ, ◌<◌}
+use Rattle.std.specs.Prelude.{◌<◌}
 use Rattle.jobvault.specs.Named.{ops_of}
 use Rattle.jobvault.specs.declared.command.Command.{Command}
 use Rattle.jobvault.specs.declared.command.Command.TheVariants.{Overview, About, Fields, Times, Inverse, Cut}

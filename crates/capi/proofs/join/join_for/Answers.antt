@@ -1,8 +1,8 @@
-use Rattle.std.proofs.Common.{◌≡◌, ℕ, ◌-◌, ◌≤◌, List, length, take, Ok, Err, sym, refl, ap, ◌∙◌, subst, arith, w32, SFits, rules}
+use Rattle.std.proofs.Common.{◌≡◌, ℕ, ◌-◌, ◌≤◌, List, length, take, Ok, Err, ap, ◌∙◌, subst, arith, w32, SFits, rules}
 use Rattle.std.proofs.lemmas.Int.{to_z_pos, to_z-of_z}
 use Rattle.collection.specs.Joining.{Joins, bytes_in}
 use Rattle.collection.proofs.Joined.{joined_short}
-use Rattle.capi.specs.Joined.{joined, parted}
+use Rattle.capi.specs.Joined.{parted}
 use Rattle.capi.proofs.Parting.{full_list, no_rest, parted_more}
 use Rattle.capi.proofs.join.join_for.Goals as goal
 use Rattle.capi.proofs.join.join_for.Goals.{then-loop-n-test+else-rest-gt0, else-loop-n-test}

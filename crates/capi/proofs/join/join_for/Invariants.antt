@@ -1,4 +1,4 @@
-use Rattle.std.proofs.Common.{◌-◌, ◌≤◌}
+use Rattle.std.proofs.Common.{◌-◌}
 use Rattle.capi.proofs.Parting.{PartedTo}
 use Rattle.capi.proofs.join.join_for.Given as goal
 

@@ -1,4 +1,4 @@
-use Rattle.std.proofs.Common.{◌≡◌, ℕ, ◌<◌, List, length, get_or, string_bytes, sym, refl, ap, ◌∙◌, subst, arith}
+use Rattle.std.proofs.Common.{◌≡◌, ℕ, ◌<◌, List, length, string_bytes, sym, refl, ap, ◌∙◌, subst, arith}
 use borrow.Author.Rules.{get_or_read}
 use Rattle.jobvault.specs.declared.scan.Names.{Names}
 use Rattle.jobvault.specs.declared.scan.Names.TheVariants as names

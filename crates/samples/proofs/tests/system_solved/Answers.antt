@@ -1,10 +1,10 @@
-use Rattle.std.proofs.Common.{◌≡◌, ℕ, zero, suc, ◌<◌, ltb, List, [], ◌∷◌, get_or, refl, arith, lit<, lit≤, ltb→lt}
+use Rattle.std.proofs.Common.{ℕ, zero, suc, ltb, List, [], ◌∷◌, get_or, refl, arith, lit<, lit≤, ltb→lt}
 use Rattle.field.specs.Gf256.{gf256, over_bits}
 use Rattle.field.specs.Every.{at}
 use Rattle.field.specs.Laws256.{laws256}
-use Rattle.algebra.specs.Codes.{Below, Regular, dot}
+use Rattle.algebra.specs.Codes.{Regular}
 use Rattle.field.specs.Sums.{sum}
-use Rattle.algebra.specs.Field.{Distinct, power}
+use Rattle.algebra.specs.Field.{power}
 use Rattle.algebra.specs.Flat.{cell}
 use Rattle.algebra.proofs.Cells.{codes_grid}
 use Rattle.algebra.proofs.OnCodes.{vandermonde_regular}
@@ -24,7 +24,7 @@ regular x wx z =
 
 pub eliminate-requires : goal.eliminate-requires
 unfolding rows
-eliminate-requires c = record {
+eliminate-requires g c = record {
   grid = codes_grid 256 2 4 rows refl (λ k h. ltb→lt _ 256 (at (λ k. ltb (get_or rows k 0) 256) 8 tt k h));
   wide = lit≤ tt;
   regular = regular;
