@@ -8,7 +8,7 @@ use std::{fs, io};
 const ENOUGH: u64 = 4619;
 
 fn job_bytes(rt: &HostRuntime, file: &String) -> io::Result<Vec<u8>> {
-    if file == "-" {
+    if file.as_str() == "-" {
         let mut bytes = Vec::new(rt.alloc());
         rt.stdin().read_to_end(&mut bytes)?;
         return Ok(bytes);

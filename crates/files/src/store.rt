@@ -8,7 +8,7 @@ use std::{fs, io};
 
 // The name that the pieces of a file begin with.
 pub fn name_of(heap: Global, file: &String) -> Result<String, FileProblem> {
-    if file == "-" {
+    if file.as_str() == "-" {
         return Ok(String::from_str(heap, "stdin")?);
     }
     match Path::new(file.as_str()).file_name() {

@@ -1,6 +1,7 @@
 #![tactic(auto)]
 // The program jobvault: reads its words, carries out what they ask for, and says in one line why it could not.
 use std::env;
+use std::process::ExitCode;
 
 mod compare;
 mod ending;
@@ -16,10 +17,6 @@ use ending::Ending;
 use problem::Problem;
 use words::command;
 
-// The program ends with status 1, and has said why.
-#[derive(Drop)]
-struct Refused;
-
 fn answer(rt: &HostRuntime) -> Result<Ending, Problem> {
     let mut words = Vec::new(rt.alloc());
     let args = match env::args(rt) {
@@ -32,13 +29,14 @@ fn answer(rt: &HostRuntime) -> Result<Ending, Problem> {
     run::run(rt, command::read(rt.alloc(), words.as_slice())?)
 }
 
-fn main(rt: HostRuntime) -> Result<(), Refused> {
+// Where the program ends with status 1, it has said why.
+fn main(rt: HostRuntime) -> ExitCode {
     match answer(&rt) {
-        Ok(Ending::Done) => Ok(()),
-        Ok(Ending::Refused) => Err(Refused),
+        Ok(Ending::Done) => ExitCode::SUCCESS,
+        Ok(Ending::Refused) => ExitCode::FAILURE,
         Err(problem) => {
             let _ = eprintln!(rt; "jobvault: {problem}");
-            Err(Refused)
+            ExitCode::FAILURE
         }
     }
 }

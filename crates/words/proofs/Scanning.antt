@@ -1,11 +1,11 @@
 -- The places of names while the words are read. Assumes nothing.
-use Rattle.std.proofs.Common.{◌≡◌, ℕ, suc, ◌+◌, ◌<◌, Bool, true, false, List, get_or, string_bytes, String, sym, refl, ap, subst, inl, inr, add-one, arith}
+use Rattle.std.proofs.Common.{◌≡◌, ℕ, ◌+◌, ◌<◌, Bool, true, false, List, get_or, string_bytes, String, sym, ap, subst, inl, inr, add-one, arith}
 use Rattle.words.specs.declared.scan.Next.{Next}
 use Rattle.words.specs.declared.scan.Next.TheVariants as next
 use Rattle.words.specs.declared.scan.Names.{Names}
 use Rattle.words.specs.declared.scan.Names.TheVariants as names
 use Rattle.words.specs.declared.scan.Scan.{Scan}
-use Rattle.words.specs.Scans.{Follows, Free, Opens, Places, Read, Step, Takes, dashed, start}
+use Rattle.words.specs.Scans.{Follows, Free, Opens, Read, Step, dashed, start}
 use Rattle.words.specs.Requests.{Runs}
 
 -- each name is one of the first n words

@@ -1,5 +1,5 @@
 -- What holds of every command that is carried out. Assumes nothing.
-use Rattle.std.specs.Prelude.{◌≡◌, ℕ, ◌<◌, List, map, vec_items, string_bytes, String}
+use Rattle.std.specs.Prelude.{◌≡◌, ◌<◌, List, map, vec_items, string_bytes, String}
 use Rattle.words.specs.Named.{ops_of}
 use Rattle.words.specs.declared.command.Command.{Command}
 use Rattle.words.specs.declared.command.Command.TheVariants.{Overview, About, Fields, Times, Inverse, Cut, Show, Candidates}

@@ -1,5 +1,5 @@
 -- What candidates is asked for by its words. Assumes nothing.
-use Rattle.std.specs.Prelude.{◌≡◌, ℕ, zero, suc, ◌<◌, List, [], map, length, Some, vec_items, string_bytes, String, ◌≢◌, slice_index_or}
+use Rattle.std.specs.Prelude.{◌≡◌, ℕ, zero, suc, List, [], map, length, Some, vec_items, string_bytes, String, ◌≢◌, slice_index_or}
 use Rattle.words.specs.declared.setting.Setting.{Setting}
 use Rattle.words.specs.declared.scan.Next.TheVariants as next
 use Rattle.words.specs.declared.asking.Asking.{Asking}

@@ -42,7 +42,7 @@ fn code_in(word: &String, field: FieldName) -> Result<u16, WordProblem>
 }
 
 fn verb_in(word: &String) -> Result<Verb, WordProblem> {
-    if word == "--help" || word == "-h" {
+    if word.as_str() == "--help" || word.as_str() == "-h" {
         return Ok(Verb::Help);
     }
     match Verb::named(word.as_str()) {

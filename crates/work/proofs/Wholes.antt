@@ -4,7 +4,6 @@ use borrow.Author.Tests.{both_ways}
 use Rattle.field.specs.Laws.{Ops}
 use Rattle.piece.specs.declared.Header.{Header}
 use Rattle.piece.specs.Bits.{value_in}
-use Rattle.piece.specs.Pieces.{listed}
 use Rattle.piece.specs.Reading.{Accepts, GoodBody, count, header_in, sensible}
 use Rattle.piece.proofs.Fields.{fields, header_of}
 use Rattle.piece.proofs.Octets.{get_d_listed, length_listed}

@@ -1,5 +1,5 @@
 use Rattle.std.proofs.Common.{◌≡◌, ◌+◌, ◌*◌, ◌<◌}
-use Rattle.jobvault.proofs.compare.mod257.Given as goal
+use Rattle.jobvault_layers.proofs.compare.mod257.Given as goal
 
 abbrev pub invariant-loop-b : goal.invariant-loop-b
 invariant-loop-b l = (l.tally.products ≡ 257 * l.a + l.b) × (l.tally.inverses ≡ l.a) × (l.theirs < 257)

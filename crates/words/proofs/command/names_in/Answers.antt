@@ -10,4 +10,4 @@ copied (x ∷ xs) [] e = elim e [ ]
 copied (x ∷ xs) (y ∷ ys) e = ap (λ (b : List ℕ). b ∷ map string_bytes ys) e.0 ∙ ap (λ (l : List (List ℕ)). string_bytes x ∷ l) (copied xs ys e.1)
 
 pub returns : goal.returns
-returns c = record { same = copied _ _ c.in-ok-to-vec.ensures.ok }
+returns c = record { same = copied _ _ c.in_ok-to_vec.ensures.ok }

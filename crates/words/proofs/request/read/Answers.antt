@@ -1,4 +1,4 @@
-use Rattle.std.proofs.Common.{◌≡◌, ℕ, ◌<◌, List, length, get_or, string_bytes, sym, refl, ap, ◌∙◌, subst, arith}
+use Rattle.std.proofs.Common.{◌≡◌, ℕ, ◌<◌, List, length, string_bytes, sym, refl, ap, ◌∙◌, subst, arith}
 use borrow.Author.Rules.{get_or_read}
 use Rattle.words.specs.declared.scan.Names.{Names}
 use Rattle.words.specs.declared.scan.Names.TheVariants as names
@@ -18,9 +18,9 @@ pub loop-at-preserved : goal.loop-at-preserved
 loop-at-preserved c =
     let at = c.loop-at.at in
     let s = c.loop-at.scan in
-    let t = c.in-ok-scan.scan in
+    let t = c.in_ok-scan.scan in
     let w = c.index-words-at.result in
-    let step : Step (string_bytes w) at s t = subst (λ (b : List ℕ). Step b at s t) c.as-str.ensures.value c.in-ok-scan.ensures.step in
+    let step : Step (string_bytes w) at s t = subst (λ (b : List ℕ). Step b at s t) c.as_str.ensures.value c.in_ok-scan.ensures.step in
     (runs_more c.args.words.now at s t w c.loop-at.invariant.0 c.index-words-at.is step, step_within (string_bytes w) at s t step c.loop-at.invariant.1)
 
 pub returns : goal.returns
@@ -35,14 +35,14 @@ returns c =
       asked = record {
         last = s;
         runs = subst (λ (n : ℕ). Runs ws n s) all c.loop-at.invariant.0;
-        whole = c.in-default.not-Value;
+        whole = c.in_default.not-Value;
         options = refl;
         first = c.in-Both.file;
         second = c.in-Both.folder;
         names = c.in-Both.is;
         first_within = first;
         second_within = second;
-        file = λ d. c.in-ok-file.ensures.cases ∙ ap string_bytes (get_or_read ws c.in-Both.file c.index-words-file.result first c.index-words-file.is d);
-        folder = λ d. c.in-ok-folder.ensures.cases ∙ ap string_bytes (get_or_read ws c.in-Both.folder c.index-words-folder.result second c.index-words-folder.is d);
+        file = λ d. c.in_ok-file.ensures.cases ∙ ap string_bytes (get_or_read ws c.in-Both.file c.index-words-file.result first c.index-words-file.is d);
+        folder = λ d. c.in_ok-folder.ensures.cases ∙ ap string_bytes (get_or_read ws c.in-Both.folder c.index-words-folder.result second c.index-words-folder.is d);
       };
     }

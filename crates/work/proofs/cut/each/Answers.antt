@@ -10,7 +10,7 @@ loop-i-init g c =
 
 pub loop-i-preserved : goal.loop-i-preserved
 loop-i-preserved g c =
-    cuts_more g.F.Field.ops c.args.layout.now.settings c.args.options.now.job c.args.options.now.stamp (job_of c.args.layout.now) c.loop-i.i (vec_items c.loop-i.all) (vec_items c.push.new.self) c.in-ok-bytes.bytes c.in-ok-push.ensures.items c.in-ok-bytes.ensures.piece c.loop-i.invariant
+    cuts_more g.F.Field.ops c.args.layout.now.settings c.args.options.now.job c.args.options.now.stamp (job_of c.args.layout.now) c.loop-i.i (vec_items c.loop-i.all) (vec_items c.push.new.self) c.in_ok-bytes.bytes c.in_ok-push.ensures.items c.in_ok-bytes.ensures.piece c.loop-i.invariant
 
 pub returns : goal.returns
 returns g c =

@@ -1,4 +1,4 @@
-use Rattle.std.proofs.Common.{◌≡◌, ℕ, List, ◌∷◌, ◌++◌, Some, ap, ◌∙◌, inl, inr, lit<}
+use Rattle.std.proofs.Common.{◌≡◌, ℕ, List, ◌∷◌, ◌++◌, Some, ap, ◌∙◌, inr, lit<}
 use Rattle.std.proofs.lemmas.Str.Pattern.{split_parts}
 use Rattle.std.proofs.lemmas.Result.{IfOk-weaker}
 use Rattle.words.specs.declared.setting.Setting.{Setting}
@@ -12,10 +12,10 @@ use Rattle.words.proofs.asking.Asking.option.Goals as goal
 joined : (w n v : List ℕ) (x : Setting) (s : Asking) (t : Heard) → w ≡ n ++ (61 ∷ v) → n ≡ setting_word_of x → Heeds x v s t → Turns w s t
 joined w n v x s t e h k = inr (inr (x, v, e ∙ ap (λ (u : List ℕ). u ++ (61 ∷ v)) h, k))
 
-pub returns-in-ok-setting : goal.returns-in-ok-setting
-returns-in-ok-setting c =
+pub returns-in_ok-setting-in-Some : goal.returns-in_ok-setting-in-Some
+returns-in_ok-setting-in-Some c =
     let name = c.in-Some.name in
     let value = c.in-Some.value in
     let parts = split_parts 61 c.args.word.now (Some (name, value)) c.in-Some.ensures.cases (lit< tt) in
-    let turns : (t : Heard) → Heeds c.in-ok-setting.setting value.now c.args.self t → Turns c.args.word.now c.args.self t = λ t k. joined c.args.word.now name.now value.now c.in-ok-setting.setting c.args.self t parts.0 c.in-ok-setting.ensures.named k in
-    record { turns = IfOk-weaker c.set.result (λ t. Heeds c.in-ok-setting.setting value.now c.args.self t) (λ t. Turns c.args.word.now c.args.self t) turns c.set.ensures.heeds }
+    let turns : (t : Heard) → Heeds c.in_ok-setting-in-Some.setting value.now c.args.self t → Turns c.args.word.now c.args.self t = λ t k. joined c.args.word.now name.now value.now c.in_ok-setting-in-Some.setting c.args.self t parts.0 c.in_ok-setting-in-Some.ensures.named k in
+    record { turns = IfOk-weaker c.set.result (λ t. Heeds c.in_ok-setting-in-Some.setting value.now c.args.self t) (λ t. Turns c.args.word.now c.args.self t) turns c.set.ensures.heeds }
