@@ -4,10 +4,9 @@
  *
  * FIELD is gf256 or mod257, the rest are numbers. Without a file it cuts a built-in job.
  *
- * Build, from the repository's root, after rt staticlib capi:
+ * Build, from the repository's root, after rt lib in crates/capi:
  *
- *     cc -Wall -Wextra -Iinclude -o cut examples/c/cut.c target/staticlib/libcapi.a \
- *         "$(dirname "$(dirname "$(rt doc)")")/lib/librattle_c.a"
+ *     cc -Wall -Wextra -Iinclude -o cut examples/c/cut.c crates/capi/out/libcapi.a
  */
 #include <errno.h>
 #include <inttypes.h>
