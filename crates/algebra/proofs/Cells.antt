@@ -10,7 +10,7 @@ use borrow.Rule.Slice.PartMut.{put_mid}
 use lib.Arith.{digits_lt}
 use lib.ListN.{length, get_or, take, drop}
 use Rattle.field.specs.Laws.{Codes}
-use Rattle.field.proofs.Parts.{part_at, put_before, put_inside, put_behind, put_codes, put_length}
+use Rattle.field.proofs.Parts.{part_at, part_length, put_before, put_inside, put_behind, put_codes, put_length}
 use Rattle.field.proofs.Rows.{row_within, place_within, row_fits}
 use Rattle.algebra.specs.Flat.{cell, Grid}
 
@@ -60,3 +60,13 @@ module _ (m w : ℕ) (xs out : List ℕ) (r : ℕ) (s : length xs ≡ m * w) (lr
   pub put_grid : (q : ℕ) → Grid q m w xs → Codes q out → Grid q m w after
   put_grid q g co =
       codes_grid q m w after (put_length xs out (r * w) w fits lo ∙ s) (put_codes xs out (r * w) w fits lo q (grid_codes q m w xs g) co)
+
+-- the row r, read as a part of the list: as long as a row, and of codes
+module _ {q m w : ℕ} {xs : List ℕ} (g : Grid q m w xs) (r : ℕ) (lr : r < m) where
+  pub row_size : length (take (r * w + w - r * w) (drop (r * w) xs)) ≡ w
+  row_size = part_length xs (r * w) w (subst (λ (n : ℕ). r * w + w ≤ n) (sym g.size) (row_fits r m w lr))
+
+  pub row_codes : Codes q (take (r * w + w - r * w) (drop (r * w) xs))
+  row_codes k l =
+      let b : k < w = subst (λ (n : ℕ). k < n) row_size l in
+      subst (λ (x : ℕ). x < q) (sym (row_at w xs r k b)) (g.below r lr k b)

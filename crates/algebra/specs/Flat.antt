@@ -1,5 +1,6 @@
 -- Rows of codes in one list, row after row, and what elimination makes of them. Assumes nothing.
 use Rattle.std.specs.Prelude.{◌≡◌, ◌↔◌, List, ℕ, ◌+◌, ◌*◌, ◌<◌, ◌≤◌, length, get_or}
+use Rattle.std.specs.Borrow.{MutBor}
 use Rattle.field.specs.Laws.{Ops}
 use Rattle.algebra.specs.Field.{Units}
 use Rattle.algebra.specs.Codes.{Below, Rows, Solves, Regular, SameSolutions}
@@ -32,3 +33,8 @@ pub record Eliminated (K : Ops) (m w : ℕ) (xs ys : List ℕ) : Type 0 where
   pub keeps : (n : ℕ) → m ≤ n → n < w → SameSolutions K m (cell w xs) (column w xs n) (cell w ys) (column w ys n)
   pub solved : (n : ℕ) → m ≤ n → n < w → (x : ℕ → ℕ) → Below K.order m x
       → (Solves K m (cell w xs) x (column w xs n) ↔ ((j : ℕ) → j < m → x j ≡ cell w ys j n))
+
+-- the same reference, to a list as long as before
+pub record Keeps (old new : MutBor (List ℕ)) : Type 0 where
+  pub name : new.ghost_name ≡ old.ghost_name
+  pub size : length new.now ≡ length old.now

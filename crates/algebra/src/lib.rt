@@ -1,14 +1,15 @@
 #![tactic(auto)]
 
-ghost use Rattle.std.specs.Prelude.{ℕ, ◌+◌, ◌*◌, ◌<◌, ◌≤◌, get_or, length, ◌≢◌, ◌≡◌};
+ghost use Rattle.std.specs.Prelude.{ℕ, ◌+◌, ◌*◌, ◌<◌, ◌≤◌, get_or, length, ◌≢◌, ◌≡◌, IfNone, IfSome};
 ghost use Rattle.algebra.specs.Codes.{Regular};
-ghost use Rattle.algebra.specs.Field.{Added, Cleared, Columns, Scaled, Units};
-ghost use Rattle.algebra.specs.Flat.{Eliminated, Grid, Reduced, cell};
+ghost use Rattle.algebra.specs.Field.{Added, Cleared, Columns, Scaled};
+ghost use Rattle.algebra.specs.Flat.{Eliminated, Grid, Keeps, cell};
 ghost use Rattle.algebra.specs.Theorems.{AlgebraStands};
 ghost use Rattle.field.specs.Laws.{Codes};
 ghost use Rattle.field.specs.Rows.{Wiped};
 
 use field::Field;
+use std::marker::PhantomData;
 
 // Root count, kernels of Vandermonde and Cauchy rows, how many rows vanish, row operations, pivots, systems with one
 // solution and what m - 1 Cauchy rows leave open: for every field. Answers how many statements there are.
@@ -19,7 +20,8 @@ pub fn theorems_stand() -> u8
     12
 }
 
-// Copies the row r out of rows.
+// Copies the row r out of rows. Of slices, like opposites: as a method of System it would have to say that the rows stay
+// as they are.
 fn copy_row(row: &mut [u16], rows: &[u16], r: usize)
     requires within { r * length row.old + length row.old ≤ length rows.now }
     ensures { (c : ℕ) → c < length row.old → get_or row.new c 0 ≡ cell (length row.old) rows.now r c }
@@ -28,58 +30,114 @@ fn copy_row(row: &mut [u16], rows: &[u16], r: usize)
     row.copy_from_slice(&rows[from..from + row.len()]);
 }
 
-// The first row from c down that is not 0 in the column c, or the number of rows.
-fn find_pivot(rows: &[u16], m: usize, w: usize, c: usize) -> usize
-    requires size { length rows.now ≡ m * w }
-    requires row { c < m }
-    requires column { c < w }
-    ensures from { c ≤ result }
-    ensures found { result < m → cell w rows.now result c ≢ 0 }
-    ensures before { (i : ℕ) → c ≤ i → i < result → cell w rows.now i c ≡ 0 }
-    ensures within { result ≤ m }
-{
-    for i in c..m {
-        if rows[i * w + c] != 0 {
-            return i;
+// A system of equations over the field F. The rows stand one behind the other, as many as factors and each as long as row;
+// both are scratch.
+#[derive(Drop)]
+struct System<'a, F: Field> {
+    rows: &'a mut [u16],
+    factors: &'a mut [u16],
+    row: &'a mut [u16],
+    field: PhantomData<F>,
+    ghost grid: { Grid F.ops.order (length factors.now) (length row.now) rows.now },
+    ghost wide: { length factors.now ≤ length row.now },
+}
+
+impl<F: Field> System<'_, F> {
+    // The first row from c down that is not 0 in the column c.
+    fn find_pivot(&self, c: usize) -> Option<usize>
+        requires { c < length self.now.factors.now }
+        ensures from { IfSome result (λ p. c ≤ p) }
+        ensures within { IfSome result (λ p. p < length self.now.factors.now) }
+        ensures found { IfSome result (λ p. cell (length self.now.row.now) self.now.rows.now p c ≢ 0) }
+        ensures before { IfSome result (λ p. (i : ℕ) → c ≤ i → i < p → cell (length self.now.row.now) self.now.rows.now i c ≡ 0) }
+        ensures none { IfNone result ((i : ℕ) → c ≤ i → i < length self.now.factors.now → cell (length self.now.row.now) self.now.rows.now i c ≡ 0) }
+    {
+        let w = self.row.len();
+        // A closure for find would need clauses of its own, longer than the loop.
+        for r in c..self.factors.len() {
+            if self.rows[r * w + c] != 0 {
+                return Some(r);
+            }
+        }
+        None
+    }
+
+    // Makes the entry of the row c in the column c not zero, by the row p, which is not zero there.
+    // Three clauses Keeps and not one: they name the three references that the loop of solve needs.
+    fn raise(&mut self, c: usize, p: usize)
+        requires from { c ≤ p }
+        requires within { p < length self.old.factors.now }
+        requires zero { c < p → cell (length self.old.row.now) self.old.rows.now c c ≡ 0 }
+        requires other { cell (length self.old.row.now) self.old.rows.now p c ≢ 0 }
+        ensures rows { Keeps self.old.rows self.new.rows }
+        ensures factors { Keeps self.old.factors self.new.factors }
+        ensures row { Keeps self.old.row self.new.row }
+        ensures same { c ≡ p → self.new.rows.now ≡ self.old.rows.now }
+        ensures added { let m = length self.old.factors.now in let w = length self.old.row.now in c < p → Columns w (Added F.ops.add F.ops.mul m c p 1) (cell w self.old.rows.now) (cell w self.new.rows.now) }
+        ensures pivot { cell (length self.old.row.now) self.new.rows.now c c ≢ 0 }
+    {
+        if c < p {
+            let w = self.row.len();
+            let from = c * w;
+            let rows = &mut *self.rows;
+            let row = &mut *self.row;
+            copy_row(row, rows, p);
+            F::add_row(&mut rows[from..from + w], row);
         }
     }
-    m
-}
 
-// Makes the entry of the row c in the column c not zero, by the row p, which is not zero there; row is scratch.
-fn raise<F: Field>(rows: &mut [u16], m: usize, c: usize, p: usize, row: &mut [u16])
-    requires grid { Grid F.ops.order m (length row.old) rows.old }
-    requires wide { m ≤ length row.old }
-    requires from { c ≤ p }
-    requires within { p < m }
-    requires zero { c < p → cell (length row.old) rows.old c c ≡ 0 }
-    requires other { cell (length row.old) rows.old p c ≢ 0 }
-    ensures grid { Grid F.ops.order m (length row.old) rows.new }
-    ensures same { c ≡ p → rows.new ≡ rows.old }
-    ensures added { c < p → Columns (length row.old) (Added F.ops.add F.ops.mul m c p 1) (cell (length row.old) rows.old) (cell (length row.old) rows.new) }
-    ensures pivot { cell (length row.old) rows.new c c ≢ 0 }
-{
-    if c < p {
-        let w = row.len();
+    // Makes the entry of the row c in the column c one.
+    fn normalize(&mut self, c: usize)
+        requires within { c < length self.old.factors.now }
+        requires pivot { cell (length self.old.row.now) self.old.rows.now c c ≢ 0 }
+        ensures rows { Keeps self.old.rows self.new.rows }
+        ensures factors { Keeps self.old.factors self.new.factors }
+        ensures row { Keeps self.old.row self.new.row }
+        ensures scaled { let m = length self.old.factors.now in let w = length self.old.row.now in Columns w (Scaled F.ops.mul m c (F.ops.inv (cell w self.old.rows.now c c))) (cell w self.old.rows.now) (cell w self.new.rows.now) }
+    {
+        let w = self.row.len();
         let from = c * w;
-        copy_row(row, rows, p);
-        F::add_row(&mut rows[from..from + w], row);
+        let k = F::inv(self.rows[from + c]);
+        F::scale_row(&mut self.rows[from..from + w], k, self.row);
     }
-}
 
-// Makes the entry of the row c in the column c one; row is scratch.
-fn normalize<F: Field>(rows: &mut [u16], m: usize, c: usize, row: &mut [u16])
-    requires grid { Grid F.ops.order m (length row.old) rows.old }
-    requires wide { m ≤ length row.old }
-    requires within { c < m }
-    requires pivot { cell (length row.old) rows.old c c ≢ 0 }
-    ensures grid { Grid F.ops.order m (length row.old) rows.new }
-    ensures scaled { Columns (length row.old) (Scaled F.ops.mul m c (F.ops.inv (cell (length row.old) rows.old c c))) (cell (length row.old) rows.old) (cell (length row.old) rows.new) }
-{
-    let w = row.len();
-    let from = c * w;
-    let k = F::inv(rows[from + c]);
-    F::scale_row(&mut rows[from..from + w], k, row);
+    // Makes each entry of the column c but that of the row c zero, where that one is 1.
+    fn clear_column(&mut self, c: usize)
+        requires { c < length self.old.factors.now }
+        ensures rows { Keeps self.old.rows self.new.rows }
+        ensures factors { Keeps self.old.factors self.new.factors }
+        ensures row { Keeps self.old.row self.new.row }
+        ensures cleared { let m = length self.old.factors.now in let w = length self.old.row.now in Columns w (Cleared F.ops.add F.ops.mul m c (λ r. F.ops.neg (cell w self.old.rows.now r c))) (cell w self.old.rows.now) (cell w self.new.rows.now) }
+        ensures wiped { Wiped self.new.row.now }
+    {
+        let w = self.row.len();
+        let rows = &mut *self.rows;
+        let factors = &mut *self.factors;
+        opposites::<F>(factors, rows, w, c);
+        copy_row(self.row, rows, c);
+        F::spread(rows, factors, self.row);
+    }
+
+    // Gauss-Jordan elimination: at the end the coefficients are the identity and the symbols are the solutions.
+    fn solve(&mut self)
+        requires { Regular F.ops (length self.old.factors.now) (cell (length self.old.row.now) self.old.rows.now) }
+        ensures rows { self.new.rows.ghost_name ≡ self.old.rows.ghost_name }
+        ensures factors { self.new.factors.ghost_name ≡ self.old.factors.ghost_name }
+        ensures row { self.new.row.ghost_name ≡ self.old.row.ghost_name }
+        ensures eliminated { Eliminated F.ops (length self.old.factors.now) (length self.old.row.now) self.old.rows.now self.new.rows.now }
+        ensures factors_wiped { Wiped self.new.factors.now }
+        ensures row_wiped { Wiped self.new.row.now }
+    {
+        // c is a column and the row of its pivot, so the loop counts it.
+        for c in 0..self.factors.len() {
+            let p = self.find_pivot(c).unwrap();
+            self.raise(c, p);
+            self.normalize(c);
+            self.clear_column(c);
+        }
+        self.factors.fill(0);
+        self.row.fill(0);
+    }
 }
 
 // Writes the opposite of each entry of the column c into factors, and 0 for the row c.
@@ -91,25 +149,11 @@ fn opposites<F: Field>(factors: &mut [u16], rows: &[u16], w: usize, c: usize)
     ensures value { (r : ℕ) → r < length factors.old → r ≢ c → get_or factors.new r 0 ≡ F.ops.neg (cell w rows.now r c) }
     ensures none { get_or factors.new c 0 ≡ 0 }
 {
-    for r in 0..factors.len() {
-        factors[r] = F::neg(rows[r * w + c]);
+    // By index: of what is written through a zip of iter_mut only the length is known.
+    for (r, factor) in factors.iter_mut().enumerate() {
+        *factor = F::neg(rows[r * w + c]);
     }
     factors[c] = 0;
-}
-
-// Makes each entry of the column c but that of the row c zero, where that one is 1; factors and row are scratch.
-fn clear_column<F: Field>(rows: &mut [u16], c: usize, factors: &mut [u16], row: &mut [u16])
-    requires grid { Grid F.ops.order (length factors.old) (length row.old) rows.old }
-    requires wide { length factors.old ≤ length row.old }
-    requires within { c < length factors.old }
-    ensures grid { Grid F.ops.order (length factors.old) (length row.old) rows.new }
-    ensures cleared { Columns (length row.old) (Cleared F.ops.add F.ops.mul (length factors.old) c (λ r. F.ops.neg (cell (length row.old) rows.old r c))) (cell (length row.old) rows.old) (cell (length row.old) rows.new) }
-    ensures wiped { Wiped row.new }
-{
-    let w = row.len();
-    opposites::<F>(factors, rows, w, c);
-    copy_row(row, rows, c);
-    F::spread(rows, factors, row);
 }
 
 // Gauss-Jordan elimination. The rows stand one behind the other; each has as many coefficients as there are rows and
@@ -123,14 +167,11 @@ pub fn eliminate<F: Field>(rows: &mut [u16], factors: &mut [u16], row: &mut [u16
     ensures factors { Wiped factors.new }
     ensures row { Wiped row.new }
 {
-    let m = factors.len();
-    let w = row.len();
-    for c in 0..m {
-        let p = find_pivot(rows, m, w, c);
-        raise::<F>(rows, m, c, p, row);
-        normalize::<F>(rows, m, c, row);
-        clear_column::<F>(rows, c, factors, row);
-    }
-    factors.fill(0);
-    row.fill(0);
+    let mut system = System::<F> {
+        rows,
+        factors,
+        row,
+        field: PhantomData,
+    };
+    system.solve();
 }

@@ -10,7 +10,7 @@ use Rattle.piece.specs.declared.fault.CutFault.TheVariants as fault
 use Rattle.piece.specs.Cutting.{cutting, is_in_range, number, size, written}
 use Rattle.piece.specs.Pieces.{columns, piece, Lawful}
 use Rattle.piece.proofs.Ranges.{lawful, columns_few}
-use Rattle.piece.proofs.Cuts.{in_range_lawful}
+use Rattle.piece.proofs.Ranges.{in_range_lawful}
 use Rattle.capi.specs.Answered.{asked, answered}
 
 abbrev pub narrowed : ℕ → ℕ → ℕ → Settings

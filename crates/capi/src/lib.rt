@@ -3,7 +3,7 @@
 ghost use Rattle.std.specs.Prelude.{◌≡◌, ℕ, min, length, pos, neg_ℤ};
 ghost use Rattle.field.specs.Gf256.{gf256};
 ghost use Rattle.field.specs.Mod257.{mod257};
-ghost use Rattle.piece.specs.Cutting.{cutting, number as refusal_number, written};
+ghost use Rattle.piece.specs.Cutting.{cutting, written};
 ghost use Rattle.piece.specs.Pieces.{piece};
 ghost use Rattle.capi.specs.Answered.{answered, asked};
 
@@ -11,7 +11,6 @@ use field::Field;
 use field::gf256::Gf256;
 use field::mod257::Mod257;
 use piece::Settings;
-use piece::fault::CutFault;
 use piece::layout::cut::cut;
 
 pub mod join;
@@ -20,26 +19,18 @@ pub mod join;
 fn narrow(x: u32) -> u8
     ensures { result ≡ min x 255 }
 {
-    if x < 255 { x as u8 } else { 255 }
+    u8::try_from(x).unwrap_or(255)
 }
 
-// The number of a refusal, made negative.
-fn refusal(fault: CutFault) -> i32
-    ensures { result ≡ neg_ℤ (pos (refusal_number fault)) }
+// The answer for a refusal of this number. C has no Result: a length, or the refusal's number made negative.
+fn refused(number: u8) -> i32
+    ensures { result ≡ neg_ℤ (pos number) }
 {
-    match fault {
-        CutFault::Settings {
-            rows: _,
-            m: _,
-            n: _,
-        } => -1,
-        CutFault::Job { length: _ } => -2,
-        CutFault::Number { number: _, n: _ } => -3,
-        CutFault::Room { has: _, needs: _ } => -4,
-    }
+    -i32::from(number)
 }
 
 // Cuts one piece of a job, over any field, from numbers as C passes them.
+// join_for ends alike, over a fault with a number of its own.
 fn cut_for<F: Field>(
     rows: u32,
     m: u32,
@@ -59,12 +50,13 @@ fn cut_for<F: Field>(
         n: narrow(n),
     };
     match cut::<F>(settings, narrow(number), job_number, stamp, job, out) {
+        // as, where it is proved to lose nothing: try_from with unwrap says no more.
         Ok(len) => len as i32,
-        Err(fault) => refusal(fault),
+        Err(fault) => refused(fault.number()),
     }
 }
 
-// Cuts one piece of a job over GF(2^8).
+// Cuts one piece of a job over GF(2^8). One export for each field, here and in `join`, since C has no type parameters.
 #[unsafe(no_mangle)]
 pub extern "C" fn jobvault_cut_gf256(
     rows: u32,

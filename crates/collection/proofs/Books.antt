@@ -1,6 +1,7 @@
 -- What a book says of the pieces that were taken. Assumes nothing.
-use Rattle.std.proofs.Common.{◌≡◌, ℕ, ◌<◌, ◌≤◌, List, map, length, get_or, sym, refl, ap, ◌∙◌, subst, arith}
+use Rattle.std.proofs.Common.{Option, ◌≡◌, ℕ, ◌<◌, ◌≤◌, List, map, length, get_or, sym, refl, ap, ◌∙◌, subst, arith}
 use native.Mathlib.Decide.{ℕ_discrete}
+use Rattle.std.specs.Option.{unwrap_or}
 use Rattle.std.specs.List.{range_with_len}
 use Rattle.std.proofs.lemmas.List.FromFn.{length-map-range_with_len, get_or-map-range_with_len, fill_by_all}
 use Rattle.field.specs.Laws.{Ops}
@@ -12,7 +13,7 @@ use Rattle.collection.specs.declared.book.Book.{Book}
 use Rattle.collection.specs.declared.fault.AddFault.{AddFault}
 use Rattle.collection.specs.declared.fault.AddFault.TheVariants as fault
 use Rattle.collection.specs.Adding.{Alike, Readable, Takes, RefusesPiece}
-use Rattle.collection.specs.Books.{Follows, Hinders, head_of, in_closed, in_open, places, solved_at, taken_at}
+use Rattle.collection.specs.Books.{first_in, Follows, Hinders, head_of, in_closed, in_open, places, solved_at, taken_at}
 use Rattle.collection.specs.declared.FieldNumbers.{FieldNumbers}
 use Rattle.collection.specs.Collected.{Collected, For, Taken, blank, first_of, fresh, nothing, field_numbers_of, piece_at}
 
@@ -32,18 +33,18 @@ module _ (b : Book) (C : Collected) (f : ℕ → Taken) (made : C.taken ≡ map 
   number_at : (t : ℕ) → t < b.have → (piece_at C t).header.number ≡ get_or b.numbers t 0
   number_at t l = ap (λ (p : Taken). p.header.number) (piece_at_is t l) ∙ ap (λ (h : Header). h.number) (heads t)
 
-  first_at : 1 ≤ b.have → first_of C ≡ b.first
+  first_at : 1 ≤ b.have → first_of C ≡ first_in b
   first_at l =
       ap (λ (p : Taken). p.header) (piece_at_is 0 l)
       ∙ (heads 0
-      ∙ ap (λ (i : ℕ). record { settings = b.first.settings; number = i; length = b.first.length; job = b.first.job; stamp = b.first.stamp }) (sym (b.lead l)))
+      ∙ ap (λ (i : ℕ). record { settings = (first_in b).settings; number = i; length = (first_in b).length; job = (first_in b).job; stamp = (first_in b).stamp }) (sym (b.lead l)))
 
   none_at : b.have ≡ 0 → first_of C ≡ blank
   none_at e = ap (λ (ps : List Taken). (get_or ps 0 nothing).header) (made ∙ ap (λ (n : ℕ). map f (range_with_len 0 n)) e)
 
   needed_at : (first_of C).settings.m ≡ places b
   needed_at = elim (ℕ_discrete b.have 0) [
-    | yes e ↦ ap (λ (h : Header). h.settings.m) (none_at e) ∙ sym (b.one e)
+    | yes e ↦ ap (λ (h : Header). h.settings.m) (none_at e) ∙ sym (ap (λ (o : Option Header). (unwrap_or o blank).settings.m) (b.none e))
     | no n ↦ ap (λ (h : Header). h.settings.m) (first_at (omega arith))
   ]
 
@@ -70,7 +71,7 @@ module _ (b : Book) (work : List ℕ) where
   pub open_number : (t : ℕ) → t < b.have → (piece_at (in_open b work) t).header.number ≡ get_or b.numbers t 0
   open_number = number_at b (in_open b work) (taken_at b work) open_made open_heads
 
-  pub open_first : 1 ≤ b.have → first_of (in_open b work) ≡ b.first
+  pub open_first : 1 ≤ b.have → first_of (in_open b work) ≡ first_in b
   open_first = first_at b (in_open b work) (taken_at b work) open_made open_heads
 
   pub open_needed : (first_of (in_open b work)).settings.m ≡ places b
@@ -95,7 +96,7 @@ module _ (K : Ops) (b : Book) (work : List ℕ) where
   pub closed_piece : (t : ℕ) → t < b.have → piece_at (in_closed K b work) t ≡ solved_at K b work t
   closed_piece = piece_at_is b (in_closed K b work) (solved_at K b work) closed_made closed_heads
 
-  pub closed_first : 1 ≤ b.have → first_of (in_closed K b work) ≡ b.first
+  pub closed_first : 1 ≤ b.have → first_of (in_closed K b work) ≡ first_in b
   closed_first = first_at b (in_closed K b work) (solved_at K b work) closed_made closed_heads
 
 -- the numbers that are a field's
@@ -113,7 +114,7 @@ open_fresh K b work own none =
     ∙ ap (λ (n : ℕ). record { field = field_numbers_of K; room = length work; taken = map (taken_at b work) (range_with_len 0 n) }) none
 
 -- the length of the job of a closed one
-pub closed_length : (K : Ops) (b : Book) (work : List ℕ) → b.have ≡ places b → (first_of (in_closed K b work)).length ≡ b.first.length
+pub closed_length : (K : Ops) (b : Book) (work : List ℕ) → b.have ≡ places b → (first_of (in_closed K b work)).length ≡ (first_in b).length
 closed_length K b work full = ap (λ (h : Header). h.length) (closed_first K b work (omega (arith, b.some)))
 
 -- the book's verdict is the collection's

@@ -10,14 +10,14 @@ use Rattle.piece.specs.Pieces.{entry}
 use Rattle.piece.specs.Reading.{count}
 use Rattle.collection.specs.declared.book.Book.{Book}
 use Rattle.collection.specs.Back.{Brought, Entered}
-use Rattle.collection.specs.Books.{SymbolsBelow, places, solution, stride}
+use Rattle.collection.specs.Books.{first_in, SymbolsBelow, places, solution, stride}
 use Rattle.collection.specs.Collected.{For}
 use Rattle.collection.proofs.Entering.{book_lawful}
 use Rattle.collection.proofs.Independent.{entries_regular, entries_rows}
 
 -- the numbers of a full book
 module _ (b : Book) (full : b.have ≡ places b) where
-  pub full_within : (t : ℕ) → t < places b → (1 ≤ get_or b.numbers t 0) × (get_or b.numbers t 0 ≤ b.first.settings.n)
+  pub full_within : (t : ℕ) → t < places b → (1 ≤ get_or b.numbers t 0) × (get_or b.numbers t 0 ≤ (first_in b).settings.n)
   full_within t l = b.within t (omega arith)
 
   pub full_differ : Distinct (places b) (λ t. get_or b.numbers t 0)
@@ -29,11 +29,11 @@ module _ (b : Book) (full : b.have ≡ places b) where
 module _ {K : Ops} (L : FieldLaws K) (B : Bounds K) (b : Book) (own : For K b.field) (full : b.have ≡ places b) (before rows : List ℕ)
     (size : length before ≡ places b * stride b) (codes : SymbolsBelow b before) (entered : Entered K b before rows) where
   A : ℕ → ℕ → ℕ
-  A t = entry K b.first.settings (get_or b.numbers t 0)
+  A t = entry K (first_in b).settings (get_or b.numbers t 0)
 
   rows_of : Rows K.order (places b) (places b) A
   unfolding A
-  rows_of = entries_rows L B b.first.settings (book_lawful b) (λ t. get_or b.numbers t 0) (full_within b full) (full_differ b full)
+  rows_of = entries_rows L B (first_in b).settings (book_lawful b) (λ t. get_or b.numbers t 0) (full_within b full) (full_differ b full)
 
   pub entered_grid : Grid K.order (places b) (stride b) rows
   unfolding A
@@ -42,7 +42,7 @@ module _ {K : Ops} (L : FieldLaws K) (B : Bounds K) (b : Book) (own : For K b.fi
     below = λ t lt c lc. elim (dec_lt c (places b)) [
       | yes l ↦ subst (λ (x : ℕ). x < K.order) (sym (entered.entries t c lt l)) (rows_of t lt c l)
       | no n ↦
-          let k : c - places b < count b.first = omega arith in
+          let k : c - places b < count (first_in b) = omega arith in
           let e : places b + (c - places b) ≡ c = omega arith in
           subst (λ (x : ℕ). cell (stride b) rows t x < K.order) e
           (subst (λ (x : ℕ). x < K.order) (sym (entered.symbols t (c - places b) lt k))
@@ -58,7 +58,7 @@ module _ {K : Ops} (L : FieldLaws K) (B : Bounds K) (b : Book) (own : For K b.fi
   pub entered_regular : Regular K (places b) (cell (stride b) rows)
   unfolding A
   entered_regular x bx zero =
-      entries_regular L B b.first.settings (book_lawful b) (λ t. get_or b.numbers t 0) (full_within b full) (full_differ b full) x bx
+      entries_regular L B (first_in b).settings (book_lawful b) (λ t. get_or b.numbers t 0) (full_within b full) (full_differ b full) x bx
       (λ t lt. sym (same_dot t lt x) ∙ zero t lt)
 
   pub brought : (after : List ℕ) → Eliminated K (places b) (stride b) rows after → Brought K b before after

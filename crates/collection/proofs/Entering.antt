@@ -1,7 +1,8 @@
 -- Coefficients in front of the symbols of each row, and the rows brought back. Assumes nothing.
-use Rattle.std.proofs.Common.{◌≡◌, ℕ, ◌+◌, ◌-◌, ◌*◌, ◌<◌, ◌≤◌, List, length, get_or, sym, refl, ap, ◌∙◌, subst, arith}
+use Rattle.std.proofs.Common.{◌≡◌, ℕ, ◌+◌, ◌-◌, ◌*◌, ◌<◌, ◌≤◌, List, length, get_or, take, sym, ap, ◌∙◌, subst, arith}
 use native.Mathlib.Decide.{ℕ_discrete, dec_lt}
 use borrow.Rule.Slice.PartMut.{put_mid}
+use Rattle.std.proofs.lemmas.List.{get_or-take}
 use Rattle.field.specs.Laws.{Ops}
 use Rattle.field.proofs.Parts.{put_length, put_before, put_inside, put_behind}
 use Rattle.field.proofs.Rows.{row_fits}
@@ -9,22 +10,23 @@ use Rattle.algebra.specs.Flat.{cell}
 use Rattle.piece.specs.Pieces.{Lawful, entry}
 use Rattle.piece.specs.Reading.{count}
 use Rattle.collection.specs.declared.book.Book.{Book}
-use Rattle.collection.specs.Books.{places, stride}
+use Rattle.collection.specs.Books.{first_in, places, stride}
 
-pub book_lawful : (b : Book) → Lawful b.first.settings
+pub book_lawful : (b : Book) → Lawful (first_in b).settings
 book_lawful b = record { kind = b.kind; some = b.some; needed = b.needed; enough = b.enough; made = b.made }
+
+-- the numbers of the pieces, where they are a list of their own
+pub numbers_at : (b : Book) (numbers : List ℕ) (t : ℕ) → numbers ≡ take b.have b.numbers → t < b.have → get_or numbers t 0 ≡ get_or b.numbers t 0
+numbers_at b numbers t e l = ap (λ (xs : List ℕ). get_or xs t 0) e ∙ get_or-take b.have b.numbers t 0 l
 
 -- the first t rows have their coefficients
 pub record EnteredTo (K : Ops) (b : Book) (t : ℕ) (start rows : List ℕ) : Type 0 where
   pub size : length rows ≡ length start
-  pub entries : (i j : ℕ) → i < t → j < places b → cell (stride b) rows i j ≡ entry K b.first.settings (get_or b.numbers i 0) j
-  pub symbols : (i k : ℕ) → i < places b → k < count b.first → cell (stride b) rows i (places b + k) ≡ cell (stride b) start i (places b + k)
-
-pub entered_none : (K : Ops) (b : Book) (start : List ℕ) → EnteredTo K b 0 start start
-entered_none K b start = record { size = refl; entries = λ i j li lj. absurd (omega arith); symbols = λ i k li lk. refl }
+  pub entries : (i j : ℕ) → i < t → j < places b → cell (stride b) rows i j ≡ entry K (first_in b).settings (get_or b.numbers i 0) j
+  pub symbols : (i k : ℕ) → i < places b → k < count (first_in b) → cell (stride b) rows i (places b + k) ≡ cell (stride b) start i (places b + k)
 
 module _ (K : Ops) (b : Book) (t : ℕ) (start rows out : List ℕ) (within : t < places b) (room : length rows ≡ places b * stride b)
-    (size : length out ≡ places b) (value : (j : ℕ) → j < places b → get_or out j 0 ≡ entry K b.first.settings (get_or b.numbers t 0) j) where
+    (size : length out ≡ places b) (value : (j : ℕ) → j < places b → get_or out j 0 ≡ entry K (first_in b).settings (get_or b.numbers t 0) j) where
   abbrev from : ℕ
   from = t * stride b
 
@@ -53,7 +55,7 @@ module _ (K : Ops) (b : Book) (t : ℕ) (start rows out : List ℕ) (within : t 
   entered_more h = record {
     size = put_length rows out from (places b) fits size ∙ h.size;
     entries = λ i j li lj. elim (ℕ_discrete i t) [
-      | yes e ↦ subst (λ (x : ℕ). cell (stride b) after x j ≡ entry K b.first.settings (get_or b.numbers x 0) j) (sym e) (this_cell j lj ∙ value j lj)
+      | yes e ↦ subst (λ (x : ℕ). cell (stride b) after x j ≡ entry K (first_in b).settings (get_or b.numbers x 0) j) (sym e) (this_cell j lj ∙ value j lj)
       | no n ↦ other_cell i j (omega arith) (omega arith) (λ e. absurd (n e)) ∙ h.entries i j (omega arith) lj
     ];
     symbols = λ i k li lk. other_cell i (places b + k) li (omega arith) (λ e. omega arith) ∙ h.symbols i k li lk;

@@ -1,6 +1,7 @@
 -- A book with one piece more. Assumes nothing.
-use Rattle.std.proofs.Common.{◌≡◌, ℕ, ◌+◌, ◌-◌, ◌*◌, ◌/◌, ◌<◌, ◌≤◌, ◌≢◌, List, [], ◌∷◌, ◌++◌, map, length, get_or, set, replicate, sym, refl, ap, ◌∙◌, subst, mul-le-mul, mul-add, arith, get_or-set_other, get_or-set_same}
+use Rattle.std.proofs.Common.{None, Some, Option, ◌≡◌, ℕ, ◌+◌, ◌-◌, ◌*◌, ◌/◌, ◌<◌, ◌≤◌, ◌≢◌, List, [], ◌∷◌, ◌++◌, map, length, get_or, set, replicate, sym, refl, ap, ◌∙◌, subst, mul-le-mul, mul-add, arith, get_or-set_other, get_or-set_same}
 use native.Mathlib.Decide.{ℕ_discrete}
+use Rattle.std.specs.Option.{IsSome, unwrap_or}
 use Rattle.std.specs.List.{range_with_len}
 use Rattle.std.proofs.lemmas.List.FromFn.{map-range_with_len_more}
 use Rattle.field.specs.Laws.{Ops}
@@ -16,8 +17,8 @@ use Rattle.piece.proofs.Ranges.{columns_fit}
 use Rattle.piece.proofs.Octets.{length_listed, get_d_listed, listed_is}
 use Rattle.collection.specs.declared.book.Book.{Book}
 use Rattle.collection.specs.Adding.{Alike}
-use Rattle.collection.specs.Books.{Follows, Grown, SymbolsBelow, head_of, in_open, places, stride, taken_at}
-use Rattle.collection.specs.Collected.{For, Taken, nothing, taking, with_piece}
+use Rattle.collection.specs.Books.{first_in, Follows, Grown, SymbolsBelow, head_of, in_open, places, stride, taken_at}
+use Rattle.collection.specs.Collected.{For, Taken, blank, nothing, taking, with_piece}
 use Rattle.collection.specs.Numbering.{Differing, Numbered}
 use Rattle.collection.proofs.Books.{map_same}
 use Rattle.collection.proofs.Laying.{Laid}
@@ -31,12 +32,22 @@ pub record Facts (first : Header) (numbers : List ℕ) (have : ℕ) : Type 0 whe
   pub made : first.settings.n ≤ 32
   pub short : first.length ≤ 4096
   pub few : have ≤ first.settings.m
-  pub one : have ≡ 0 → first.settings.m ≡ 1
   pub lead : 1 ≤ have → first.number ≡ get_or numbers 0 0
   pub within : Numbered first.settings.n have numbers
   pub differ : Differing have numbers
 
-module _ (b : Book) (h first : Header) (none : b.have ≡ 0 → first ≡ h) (some : 1 ≤ b.have → first ≡ b.first) (follows : Follows b h) where
+-- the header of the first piece, where there is one, or else the next
+pub next_none : (b : Book) (h : Header) → b.have ≡ 0 → unwrap_or b.first h ≡ h
+next_none b h e = ap (λ (o : Option Header). unwrap_or o h) (b.none e)
+
+same_some : (o : Option Header) (x y : Header) → IsSome o → unwrap_or o x ≡ unwrap_or o y
+same_some None x y l = cc
+same_some (Some z) x y l = refl
+
+pub next_some : (b : Book) (h : Header) → 1 ≤ b.have → unwrap_or b.first h ≡ first_in b
+next_some b h l = same_some b.first h blank (b.begun l)
+
+module _ (b : Book) (h first : Header) (none : b.have ≡ 0 → first ≡ h) (some : 1 ≤ b.have → first ≡ first_in b) (follows : Follows b h) where
   pub alike_next : Alike first h
   alike_next = elim (ℕ_discrete b.have 0) [
     | yes e ↦ subst (λ (x : Header). Alike x h) (sym (none e)) (record { settings = refl; length = refl; job = refl; stamp = refl })
@@ -73,7 +84,7 @@ module _ (b : Book) (h first : Header) (none : b.have ≡ 0 → first ≡ h) (so
         let rows : first.settings.rows ≡ h.settings.rows = ap (λ (s : Settings). s.rows) a.settings in
         let m : first.settings.m ≡ h.settings.m = ap (λ (s : Settings). s.m) a.settings in
         let n : first.settings.n ≡ h.settings.n = ap (λ (s : Settings). s.n) a.settings in
-        let old-n : 1 ≤ b.have → b.first.settings.n ≡ first.settings.n = λ l. ap (λ (x : Header). x.settings.n) (sym (some l)) in
+        let old-n : 1 ≤ b.have → (first_in b).settings.n ≡ first.settings.n = λ l. ap (λ (x : Header). x.settings.n) (sym (some l)) in
         record {
           kind = omega (arith, L.kind);
           some = omega (arith, L.some);
@@ -85,7 +96,6 @@ module _ (b : Book) (h first : Header) (none : b.have ≡ 0 → first ≡ h) (so
             | yes e ↦ omega (arith, L.some)
             | no ne ↦ omega (arith, follows.space, ap (λ (x : Header). x.settings.m) (some (omega arith)))
           ];
-          one = λ e. absurd (omega arith);
           lead = λ _. elim (ℕ_discrete b.have 0) [
             | yes e ↦ ap (λ (x : Header). x.number) (none e) ∙ (sym at_new ∙ ap (λ (t : ℕ). get_or after t 0) e)
             | no ne ↦
@@ -115,16 +125,15 @@ work_suffices m len some needed short =
     omega arith
 
 -- the symbols of the rows stand before the place behind them
-row_before : (b : Book) (t k : ℕ) → t < b.have → k < count b.first → t * stride b + (places b + k) < b.have * stride b
+row_before : (b : Book) (t k : ℕ) → t < b.have → k < count (first_in b) → t * stride b + (places b + k) < b.have * stride b
 row_before b t k lt lk = let f = row_fits t b.have (stride b) lt in omega arith
 
--- so a code that is written there changes none of them
-pub set_keeps : (b : Book) (work : List ℕ) (i v : ℕ) → b.have * stride b ≤ i → SymbolsBelow b work → SymbolsBelow b (set work i v)
+-- so symbols that are laid there change none of them
+pub laid_keeps : (b : Book) (from n : ℕ) (symbols start work : List ℕ) → b.have * stride b ≤ from → Laid from n symbols start work → SymbolsBelow b start → SymbolsBelow b work
 unfolding cell
-set_keeps b work i v behind codes t k lt lk =
+laid_keeps b from n symbols start work behind laid codes t k lt lk =
     let l = row_before b t k lt lk in
-    let n : t * stride b + (places b + k) ≢ i = omega arith in
-    subst (λ (x : ℕ). x < b.field.order) (sym (get_or-set_other work i (t * stride b + (places b + k)) v 0 n)) (codes t k lt lk)
+    subst (λ (x : ℕ). x < b.field.order) (sym (laid.before (t * stride b + (places b + k)) (omega arith))) (codes t k lt lk)
 
 -- zeros are codes
 pub zeros_below : (b : Book) (n : ℕ) → SymbolsBelow b (replicate n 0)
@@ -137,13 +146,13 @@ module _ (b : Book) (h : Header) (follows : Follows b h) (lawful : Lawful h.sett
   abbrev width : ℕ
   width = h.settings.m + count h
 
-  places_of : 1 ≤ b.have → b.first.settings.m ≡ h.settings.m
+  places_of : 1 ≤ b.have → (first_in b).settings.m ≡ h.settings.m
   places_of l = ap (λ (s : Settings). s.m) (follows.alike l).settings
 
   stride_of : 1 ≤ b.have → stride b ≡ width
   stride_of l =
       let a = follows.alike l in
-      ap (λ (s : Settings). s.m + (b.first.length + (s.m - 1)) / s.m) a.settings ∙ ap (λ (n : ℕ). h.settings.m + (n + (h.settings.m - 1)) / h.settings.m) a.length
+      ap (λ (s : Settings). s.m + ((first_in b).length + (s.m - 1)) / s.m) a.settings ∙ ap (λ (n : ℕ). h.settings.m + (n + (h.settings.m - 1)) / h.settings.m) a.length
 
   next_row : b.have < h.settings.m
   next_row = elim (ℕ_discrete b.have 0) [
@@ -167,22 +176,22 @@ module _ (b : Book) (h : Header) (follows : Follows b h) (lawful : Lawful h.sett
 module _ (b after : Book) (h : Header) (symbols start work : List ℕ) (grown : Grown b h after) (size : length b.numbers ≡ 16) (follows : Follows b h)
     (full : length symbols ≡ count h)
     (laid : Laid (b.have * (h.settings.m + count h) + h.settings.m) (count h) symbols start work) where
-  count_next : count after.first ≡ count h
+  count_next : count (first_in after) ≡ count h
   count_next =
       let a = grown.alike in
-      ap (λ (s : Settings). (after.first.length + (s.m - 1)) / s.m) a.settings ∙ ap (λ (n : ℕ). (n + (h.settings.m - 1)) / h.settings.m) a.length
+      ap (λ (s : Settings). ((first_in after).length + (s.m - 1)) / s.m) a.settings ∙ ap (λ (n : ℕ). (n + (h.settings.m - 1)) / h.settings.m) a.length
 
   places_next : places after ≡ h.settings.m
   places_next = ap (λ (s : Settings). s.m) grown.alike.settings
 
   stride_next : stride after ≡ h.settings.m + count h
-  stride_next = ap (λ (m : ℕ). m + count after.first) places_next ∙ ap (λ (n : ℕ). h.settings.m + n) count_next
+  stride_next = ap (λ (m : ℕ). m + count (first_in after)) places_next ∙ ap (λ (n : ℕ). h.settings.m + n) count_next
 
   -- where there was a piece, the rows are as long as they were
   stride_kept : 1 ≤ b.have → stride after ≡ stride b
   stride_kept l = ap (λ (x : Header). x.settings.m + count x) (grown.kept l)
 
-  old_cell : (t k : ℕ) → t < b.have → k < count b.first → cell (stride b) work t (places b + k) ≡ cell (stride b) start t (places b + k)
+  old_cell : (t k : ℕ) → t < b.have → k < count (first_in b) → cell (stride b) work t (places b + k) ≡ cell (stride b) start t (places b + k)
   unfolding cell
   old_cell t k lt lk =
       let l = row_before b t k lt lk in
@@ -225,30 +234,30 @@ module _ (b after : Book) (h : Header) (symbols start work : List ℕ) (grown : 
   unfolding taken_at
   old_taken t l =
       let some : 1 ≤ b.have = omega arith in
-      let n : ℕ = count b.first in
+      let n : ℕ = count (first_in b) in
       let f : ℕ → ℕ = λ k. cell (stride b) work t (places b + k) in
       let same : listed n f ≡ listed n (λ k. cell (stride b) start t (places b + k))
       = listed_is (listed n f) n (λ k. cell (stride b) start t (places b + k)) (length_listed n f) (λ k lk. get_d_listed n f k lk ∙ old_cell t k l lk) in
       ap (λ (x : Header). record { header = record { settings = x.settings; number = get_or after.numbers t 0; length = x.length; job = x.job; stamp = x.stamp }; symbols = listed (count x) (λ k. cell (x.settings.m + count x) work t (x.settings.m + k)) }) (grown.kept some)
-      ∙ (ap (λ (i : ℕ). record { header = record { settings = b.first.settings; number = i; length = b.first.length; job = b.first.job; stamp = b.first.stamp }; symbols = listed n f }) (old_number t l)
+      ∙ (ap (λ (i : ℕ). record { header = record { settings = (first_in b).settings; number = i; length = (first_in b).length; job = (first_in b).job; stamp = (first_in b).stamp }; symbols = listed n f }) (old_number t l)
       ∙ ap (λ (xs : List ℕ). record { header = head_of b t; symbols = xs }) same)
 
   new_head : head_of after b.have ≡ h
   new_head =
       let a = grown.alike in
-      ap (λ (s : Settings). record { settings = s; number = get_or after.numbers b.have 0; length = after.first.length; job = after.first.job; stamp = after.first.stamp }) a.settings
-      ∙ (ap (λ (i : ℕ). record { settings = h.settings; number = i; length = after.first.length; job = after.first.job; stamp = after.first.stamp }) new_number
-      ∙ (ap (λ (n : ℕ). record { settings = h.settings; number = h.number; length = n; job = after.first.job; stamp = after.first.stamp }) a.length
-      ∙ (ap (λ (n : ℕ). record { settings = h.settings; number = h.number; length = h.length; job = n; stamp = after.first.stamp }) a.job
+      ap (λ (s : Settings). record { settings = s; number = get_or after.numbers b.have 0; length = (first_in after).length; job = (first_in after).job; stamp = (first_in after).stamp }) a.settings
+      ∙ (ap (λ (i : ℕ). record { settings = h.settings; number = i; length = (first_in after).length; job = (first_in after).job; stamp = (first_in after).stamp }) new_number
+      ∙ (ap (λ (n : ℕ). record { settings = h.settings; number = h.number; length = n; job = (first_in after).job; stamp = (first_in after).stamp }) a.length
+      ∙ (ap (λ (n : ℕ). record { settings = h.settings; number = h.number; length = h.length; job = n; stamp = (first_in after).stamp }) a.job
       ∙ ap (λ (n : ℕ). record { settings = h.settings; number = h.number; length = h.length; job = h.job; stamp = n }) a.stamp)))
 
   new_taken : (values : List ℕ) → symbols ≡ values → taken_at after work b.have ≡ record { header = h; symbols = values }
   unfolding taken_at
   new_taken values e =
       let f : ℕ → ℕ = λ k. cell (stride after) work b.have (places after + k) in
-      let same : symbols ≡ listed (count after.first) f
-      = listed_is symbols (count after.first) f (full ∙ sym count_next) (λ k lk. sym (new_cell k (omega (arith, count_next)))) in
-      ap (λ (x : Header). record { header = x; symbols = listed (count after.first) f }) new_head
+      let same : symbols ≡ listed (count (first_in after)) f
+      = listed_is symbols (count (first_in after)) f (full ∙ sym count_next) (λ k lk. sym (new_cell k (omega (arith, count_next)))) in
+      ap (λ (x : Header). record { header = x; symbols = listed (count (first_in after)) f }) new_head
       ∙ ap (λ (xs : List ℕ). record { header = h; symbols = xs }) (sym same ∙ e)
 
   pub grown_open : (values : List ℕ) → symbols ≡ values → length work ≡ length start

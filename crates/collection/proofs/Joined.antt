@@ -15,7 +15,7 @@ use Rattle.piece.proofs.Cuts.{piece_parts}
 use Rattle.piece.proofs.Exact.{accepts_composed, back, composed_reads, value_code}
 use Rattle.piece.proofs.Faults.{held_listed, held_no_fault}
 use Rattle.piece.proofs.Octets.{get_d_listed, length_listed}
-use Rattle.piece.proofs.Ranges.{false_true}
+use Rattle.std.proofs.lemmas.Bool.{false≢true}
 use Rattle.piece.proofs.Readings.{short_if_sensible}
 use Rattle.collection.specs.declared.fault.AddFault.{AddFault}
 use Rattle.collection.specs.declared.fault.AddFault.TheVariants as add
@@ -32,7 +32,7 @@ use Rattle.collection.specs.Joining.{AnyMBringBack, Chosen, Feeds, Joins, NoJobI
 accepted_not_refused : (K : Ops) → Bounds K → (bytes : List ℕ) → Accepts K bytes → (f : ReadFault) → Refuses K bytes f → ⊥
 accepted_not_refused K B bytes A (read.Short len) r = omega (arith, A.headed.long, r.1)
 accepted_not_refused K B bytes A (read.Field code wants) r = r.3 (r.1 ∙ (A.headed.field ∙ sym r.2))
-accepted_not_refused K B bytes A (read.Header rows m n i len) r = false_true (sym r.6 ∙ A.header)
+accepted_not_refused K B bytes A (read.Header rows m n i len) r = false≢true (sym r.6 ∙ A.header)
 accepted_not_refused K B bytes A (read.Body has needs) r = r.2.2 (r.2.0 ∙ (A.body.long ∙ sym r.2.1))
 accepted_not_refused K B bytes A (read.Value at) r =
     let n : ℕ = count (header_in bytes) in

@@ -2,13 +2,12 @@
 use Rattle.std.proofs.Common.{◌≡◌, ℕ, ◌+◌, ◌-◌, ◌*◌, ◌/◌, ◌%◌, ◌<◌, ◌≤◌, Bool, true, false, cond, ltb, ◌≢◌, List, length, get_or, set, sym, refl, ap, ◌∙◌, subst, mod-lt, div-lt_iff_lt-mul, div-add-mod', arith, length-set, get_or-set_other, get_or-set_same, ltb-true, lt-ltb}
 use native.Mathlib.Decide.{dec_lt, ℕ_discrete}
 use lib.Arith.{digits_div, digits_mod}
-use Rattle.field.proofs.Rows.{row_fits}
 use Rattle.algebra.specs.Flat.{cell}
 use Rattle.piece.specs.Reading.{count}
 use Rattle.piece.proofs.Octets.{listed_is}
 use Rattle.collection.specs.declared.book.Book.{Book}
 use Rattle.collection.specs.Back.{InRow, Symbol, full_length_at, job_in}
-use Rattle.collection.specs.Books.{places, solution, stride}
+use Rattle.collection.specs.Books.{first_in, places, solution, stride}
 
 -- a symbol at the place j belongs to the job where its column is one of the first
 module _ (len m j : ℕ) (within : j < m) where
@@ -49,46 +48,27 @@ most_rest : (t : Bool) (k full v : ℕ) → ltb k full ≡ t → full ≤ k → 
 most_rest true k full v e l h = absurd (omega (arith, ltb-true k full e))
 most_rest false k full v e l h = omega arith
 
-at_most : (t : Bool) (k full v : ℕ) → ltb k full ≡ t → (k < full → v < 256) → (full ≤ k → v ≡ 0) → v ≤ cond t 255 0
-at_most true k full v e byte zero = let b = byte (ltb-true k full e) in omega arith
-at_most false k full v e byte zero = elim (dec_lt k full) [
-  | yes l ↦ let q : false ≡ true = sym e ∙ lt-ltb k full l in absurd (let z : ◌≡◌ {A = ℕ} 0 1 = cc in omega arith)
-  | no n ↦ let z = zero (omega arith) in omega arith
-]
-
 -- a row is in order exactly where its symbols are
-module _ (b : Book) (rows row : List ℕ) (j : ℕ) (within : j < places b) (size : length row ≡ count b.first)
-    (same : (k : ℕ) → k < count b.first → get_or row k 0 ≡ solution b rows k j) where
+module _ (b : Book) (rows row : List ℕ) (j : ℕ) (within : j < places b) (size : length row ≡ count (first_in b))
+    (same : (k : ℕ) → k < count (first_in b) → get_or row k 0 ≡ solution b rows k j) where
   abbrev full : ℕ
-  full = full_length_at b.first.length (places b) j
+  full = full_length_at (first_in b).length (places b) j
 
-  pub row_symbols : InRow full row → (k : ℕ) → k < count b.first → Symbol b.first.length (places b) k j (solution b rows k j)
+  pub row_symbols : InRow full row → (k : ℕ) → k < count (first_in b) → Symbol (first_in b).length (places b) k j (solution b rows k j)
   row_symbols h k l =
       let e = same k l in
       let v : get_or row k 0 ≤ cond (ltb k full) 255 0 = h k (omega arith) in
       record {
-        byte = λ lt. subst (λ (x : ℕ). x < 256) e (most_full k full (get_or row k 0) (full_if b.first.length (places b) j within k lt) v);
+        byte = λ lt. subst (λ (x : ℕ). x < 256) e (most_full k full (get_or row k 0) (full_if (first_in b).length (places b) j within k lt) v);
         zero = λ le. sym e ∙ most_rest (ltb k full) k full (get_or row k 0) refl
-            (elim (dec_lt k full) [ yes y ↦ absurd (omega (arith, full_only b.first.length (places b) j within k y)) | no n ↦ omega arith ]) v;
+            (elim (dec_lt k full) [ yes y ↦ absurd (omega (arith, full_only (first_in b).length (places b) j within k y)) | no n ↦ omega arith ]) v;
       }
-
-  pub symbols_row : ((k : ℕ) → k < count b.first → Symbol b.first.length (places b) k j (solution b rows k j)) → InRow full row
-  symbols_row h k l =
-      let lk : k < count b.first = omega arith in
-      let s = h k lk in
-      subst (λ (x : ℕ). x ≤ cond (ltb k full) 255 0) (sym (same k lk))
-      (at_most (ltb k full) k full (solution b rows k j) refl
-      (λ lf. s.byte (full_only b.first.length (places b) j within k lf))
-      (λ le. s.zero (elim (dec_lt (k * places b + j) b.first.length) [ yes y ↦ absurd (omega (arith, full_if b.first.length (places b) j within k y)) | no n ↦ omega arith ])))
 
 -- the first k symbols of a row were written
 pub record RowTo (m j k : ℕ) (row start job : List ℕ) : Type 0 where
   pub size : length job ≡ length start
   pub here : (i : ℕ) → i < k → get_or job (i * m + j) 0 ≡ get_or row i 0
   pub rest : (i : ℕ) → i % m ≢ j → get_or job i 0 ≡ get_or start i 0
-
-pub row_none : (m j : ℕ) (row start : List ℕ) → RowTo m j 0 row start start
-row_none m j row start = record { size = refl; here = λ i l. absurd (omega arith); rest = λ i n. refl }
 
 pub row_more : (m j k : ℕ) (row start job : List ℕ) → j < m → k * m + j < length job → RowTo m j k row start job
     → RowTo m j (k + 1) row start (set job (k * m + j) (get_or row k 0))
@@ -107,13 +87,10 @@ row_more m j k row start job lj within h = record {
 
 -- the symbols at the first j places were written
 pub record JobTo (b : Book) (rows : List ℕ) (j : ℕ) (job : List ℕ) : Type 0 where
-  pub size : length job ≡ b.first.length
-  pub here : (i : ℕ) → i < b.first.length → i % places b < j → get_or job i 0 ≡ solution b rows (i / places b) (i % places b)
+  pub size : length job ≡ (first_in b).length
+  pub here : (i : ℕ) → i < (first_in b).length → i % places b < j → get_or job i 0 ≡ solution b rows (i / places b) (i % places b)
 
-pub job_none : (b : Book) (rows job : List ℕ) → length job ≡ b.first.length → JobTo b rows 0 job
-job_none b rows job e = record { size = e; here = λ i l m. absurd (omega arith) }
-
-pub job_more : (b : Book) (rows row job after : List ℕ) (j : ℕ) → j < places b → length row ≡ full_length_at b.first.length (places b) j
+pub job_more : (b : Book) (rows row job after : List ℕ) (j : ℕ) → j < places b → length row ≡ full_length_at (first_in b).length (places b) j
     → ((k : ℕ) → k < length row → get_or row k 0 ≡ solution b rows k j) → length after ≡ length job
     → ((k : ℕ) → k < length row → get_or after (k * places b + j) 0 ≡ get_or row k 0)
     → ((i : ℕ) → i % places b ≢ j → get_or after i 0 ≡ get_or job i 0)
@@ -126,7 +103,7 @@ job_more b rows row job after j lj size same len here rest h = record {
         let k : ℕ = i / m in
         let d : k * m + i % m ≡ i = div-add-mod' i m in
         let q : k * m + j ≡ i = ap (λ (x : ℕ). k * m + x) (sym e) ∙ d in
-        let lk : k < length row = subst (λ (n : ℕ). k < n) (sym size) (full_if b.first.length m j lj k (omega arith)) in
+        let lk : k < length row = subst (λ (n : ℕ). k < n) (sym size) (full_if (first_in b).length m j lj k (omega arith)) in
         ap (λ (x : ℕ). get_or after x 0) (sym q) ∙ (here k lk ∙ (same k lk ∙ ap (λ (x : ℕ). solution b rows k x) (sym e)))
     | no n ↦ rest i n ∙ h.here i l (omega arith)
   ];
@@ -134,11 +111,11 @@ job_more b rows row job after j lj size same len here rest h = record {
 
 pub job_all : (b : Book) (rows job : List ℕ) (j : ℕ) → j ≡ places b → JobTo b rows j job → job ≡ job_in b rows
 job_all b rows job j e h =
-    listed_is job b.first.length (λ i. solution b rows (i / places b) (i % places b)) h.size
+    listed_is job (first_in b).length (λ i. solution b rows (i / places b) (i % places b)) h.size
     (λ i l. h.here i l (let w = mod-lt i {m = places b} (omega (arith, b.some)) in omega arith))
 
 -- where the symbols of a row stand
-module _ (b : Book) (rows : List ℕ) (m n j : ℕ) (em : m ≡ places b) (en : n ≡ count b.first) where
+module _ (b : Book) (rows : List ℕ) (m n j : ℕ) (em : m ≡ places b) (en : n ≡ count (first_in b)) where
   pub row_place : (k : ℕ) → get_or rows (j * (m + n) + m + k) 0 ≡ solution b rows k j
   unfolding cell
   row_place k =
@@ -146,28 +123,19 @@ module _ (b : Book) (rows : List ℕ) (m n j : ℕ) (em : m ≡ places b) (en : 
       = ap (λ (x : ℕ). j * (x + n) + x + k) em ∙ (ap (λ (x : ℕ). j * (places b + x) + places b + k) en ∙ omega arith) in
       ap (λ (i : ℕ). get_or rows i 0) e
 
-  pub row_room : j < m → places b * stride b ≤ length rows → j * (m + n) + m + n ≤ length rows
-  row_room l room =
-      let f = row_fits j m (m + n) l in
-      let e : m * (m + n) ≡ places b * stride b = ap (λ (x : ℕ). x * (x + n)) em ∙ ap (λ (x : ℕ). places b * (places b + x)) en in
-      omega arith
-
 -- the rows of the first j places are in order
 pub record WholeTo (b : Book) (rows : List ℕ) (j : ℕ) : Type 0 where
-  pub to : (i k : ℕ) → i < j → k < count b.first → Symbol b.first.length (places b) k i (solution b rows k i)
+  pub to : (i k : ℕ) → i < j → k < count (first_in b) → Symbol (first_in b).length (places b) k i (solution b rows k i)
 
-pub whole_none : (b : Book) (rows : List ℕ) → WholeTo b rows 0
-whole_none b rows = record { to = λ i k li lk. absurd (omega arith) }
-
-pub whole_more : (b : Book) (rows : List ℕ) (j : ℕ) → ((k : ℕ) → k < count b.first → Symbol b.first.length (places b) k j (solution b rows k j))
+pub whole_more : (b : Book) (rows : List ℕ) (j : ℕ) → ((k : ℕ) → k < count (first_in b) → Symbol (first_in b).length (places b) k j (solution b rows k j))
     → WholeTo b rows j → WholeTo b rows (j + 1)
 whole_more b rows j here h = record {
   to = λ i k li lk. elim (ℕ_discrete i j) [
-    | yes e ↦ subst (λ (x : ℕ). Symbol b.first.length (places b) k x (solution b rows k x)) (sym e) (here k lk)
+    | yes e ↦ subst (λ (x : ℕ). Symbol (first_in b).length (places b) k x (solution b rows k x)) (sym e) (here k lk)
     | no n ↦ h.to i k (omega arith) lk
   ];
 }
 
 -- how many symbols a row has, as it is computed
-pub full_same : (b : Book) (len m j full : ℕ) → len ≡ b.first.length → m ≡ places b → full ≡ full_length_at len m j → full ≡ full_length_at b.first.length (places b) j
-full_same b len m j full el em e = e ∙ (ap (λ (x : ℕ). full_length_at x m j) el ∙ ap (λ (x : ℕ). full_length_at b.first.length x j) em)
+pub full_same : (b : Book) (len m j full : ℕ) → len ≡ (first_in b).length → m ≡ places b → full ≡ full_length_at len m j → full ≡ full_length_at (first_in b).length (places b) j
+full_same b len m j full el em e = e ∙ (ap (λ (x : ℕ). full_length_at x m j) el ∙ ap (λ (x : ℕ). full_length_at (first_in b).length x j) em)

@@ -2,7 +2,7 @@
 ghost use Rattle.std.specs.Prelude.{◌≡◌, ℕ, ◌+◌, ◌*◌, ◌%◌, ◌<◌, ◌≤◌, true, false, ◌≢◌, length, if◌then◌else◌, nat_lt, slice_index};
 ghost use Rattle.field.specs.Rows.{Wiped};
 ghost use Rattle.algebra.specs.Flat.{cell};
-ghost use Rattle.collection.specs.Back.{Brought, Entered, InRow, Whole, full_length_at, job_in};
+ghost use Rattle.collection.specs.Back.{Brought, Entered, InRow, full_length_at};
 ghost use Rattle.collection.specs.Books.{SymbolsBelow, places, stride};
 ghost use Rattle.collection.specs.Collected.{For};
 
@@ -10,6 +10,7 @@ use crate::book::Book;
 use algebra::eliminate;
 use field::Field;
 use piece::entries::entries;
+use piece::scheme::Scheme;
 
 // Writes the coefficients of each piece in front of its symbols.
 fn lay_entries<F: Field>(book: &Book, rows: &mut [u16])
@@ -19,9 +20,11 @@ fn lay_entries<F: Field>(book: &Book, rows: &mut [u16])
 {
     let m = book.needs() as usize;
     let w = m + book.columns();
-    for t in 0..m {
+    let scheme = Scheme::of(book.settings());
+    // By index: of what is written through chunks_mut only the length is known.
+    for (t, number) in book.numbers().iter().enumerate() {
         let from = t * w;
-        entries::<F>(&mut rows[from..from + m], book.settings(), book.number(t));
+        entries::<F>(&mut rows[from..from + m], scheme, *number);
     }
 }
 
@@ -49,20 +52,17 @@ fn most_at(k: usize, full: usize) -> u16
 }
 
 // Whether a row has bytes at its first places and zeros at the others.
-fn is_row(row: &[u16], full: usize) -> bool
+pub fn is_row(row: &[u16], full: usize) -> bool
     ensures yes { result ≡ true → InRow full row.now }
     ensures no { result ≡ false → InRow full row.now → ⊥ }
 {
-    for k in 0..row.len() {
-        if row[k] > most_at(k, full) {
-            return false;
-        }
-    }
-    true
+    row.iter()
+        .enumerate()
+        .all(|(k, symbol)| *symbol <= most_at(k, full))
 }
 
 // How many symbols at the place j belong to a job of this length.
-fn full_at(len: usize, m: usize, j: usize) -> usize
+pub fn full_at(len: usize, m: usize, j: usize) -> usize
     requires short { len ≤ 4096 }
     requires few { m ≤ 16 }
     requires within { j < m }
@@ -71,49 +71,17 @@ fn full_at(len: usize, m: usize, j: usize) -> usize
     (len + (m - 1 - j)) / m
 }
 
-// Whether the rows have the symbols of a job: bytes, and zeros that fill up the last column.
-pub fn is_job(book: &Book, rows: &[u16]) -> bool
-    requires room { places book.now * stride book.now ≤ length rows.now }
-    ensures yes { result ≡ true → Whole book.now rows.now }
-    ensures no { result ≡ false → Whole book.now rows.now → ⊥ }
-{
-    let m = book.needs() as usize;
-    let n = book.columns();
-    let w = m + n;
-    for j in 0..m {
-        let from = j * w + m;
-        if !is_row(&rows[from..from + n], full_at(book.length(), m, j)) {
-            return false;
-        }
-    }
-    true
-}
-
 // Writes the symbols of one row to their places in the job.
-fn write_row(job: &mut [u8], row: &[u16], m: usize, j: usize)
+pub fn write_row(job: &mut [u8], row: &[u16], m: usize, j: usize)
     requires place { j < m }
     requires within { (k : ℕ) → k < length row.now → k * m + j < length job.old }
     requires bytes { (k : ℕ) → k < length row.now → slice_index row.now k < 256 }
     ensures here { (k : ℕ) → k < length row.now → slice_index job.new (k * m + j) ≡ slice_index row.now k }
     ensures rest { (i : ℕ) → i % m ≢ j → slice_index job.new i ≡ slice_index job.old i }
 {
-    for k in 0..row.len() {
-        job[k * m + j] = row[k] as u8;
-    }
-}
-
-// Writes the job that the rows have.
-pub fn write_job(book: &Book, rows: &[u16], job: &mut [u8])
-    requires room { places book.now * stride book.now ≤ length rows.now }
-    requires whole { Whole book.now rows.now }
-    requires size { length job.old ≡ book.now.first.length }
-    ensures { job.new ≡ job_in book.now rows.now }
-{
-    let m = book.needs() as usize;
-    let w = m + book.columns();
-    for j in 0..m {
-        let from = j * w + m;
-        let full = full_at(book.length(), m, j);
-        write_row(job, &rows[from..from + full], m, j);
+    // By index: of what is written through a zip of iter_mut only the length is known.
+    for (k, symbol) in row.iter().enumerate() {
+        // as, where it is proved to lose nothing: try_from with unwrap says no more.
+        job[k * m + j] = *symbol as u8;
     }
 }

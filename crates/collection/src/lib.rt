@@ -1,5 +1,10 @@
 #![tactic(auto)]
 // Collections of pieces, and the jobs that they bring back.
+ghost use Rattle.std.specs.Prelude.{◌≡◌};
+ghost use Rattle.collection.specs.Collected.{field_numbers_of};
+
+use field::Field;
+
 mod back;
 mod book;
 pub mod closed;
@@ -19,4 +24,17 @@ pub struct FieldNumbers {
     pub order: u16,
     // The bits that a code takes in a piece.
     pub width: u32,
+}
+
+impl FieldNumbers {
+    // The numbers of the field F.
+    pub fn of<F: Field>() -> FieldNumbers
+        ensures { result ≡ field_numbers_of F.ops }
+    {
+        FieldNumbers {
+            code: F::code(),
+            order: F::order(),
+            width: F::width(),
+        }
+    }
 }

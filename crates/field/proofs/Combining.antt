@@ -1,5 +1,5 @@
 -- Sums of multiples of rows, by the digits of the factors from the highest down. Assumes nothing.
-use Rattle.std.proofs.Common.{◌≡◌, ℕ, zero, suc, ◌+◌, ◌-◌, ◌*◌, ◌/◌, ◌%◌, ◌^◌, ◌<◌, ◌≤◌, ◌≢◌, List, length, get_or, set, sym, refl, ap, ◌∙◌, subst, ap₂, mod-lt, suc-mul, div-add-mod', div-one, add-one, arith, get_or-set_other, get_or-set_same, shr-shr}
+use Rattle.std.proofs.Common.{◌≡◌, ℕ, zero, suc, ◌+◌, ◌*◌, ◌/◌, ◌%◌, ◌^◌, ◌<◌, ◌≤◌, ◌≢◌, List, length, get_or, set, sym, refl, ap, ◌∙◌, subst, ap₂, mod-lt, suc-mul, div-add-mod', div-one, add-one, arith, get_or-set_other, get_or-set_same, shr-shr}
 use native.Mathlib.Nat.{div-eq_of_lt, zero-div}
 use native.Mathlib.Decide.{ℕ_discrete, dec_lt}
 use lib.Arith.{digits_lt, digits_div, digits_mod}
@@ -126,23 +126,20 @@ mix_same K zero f g x h = refl
 mix_same K (suc n) f g x h =
     ap₂ K.add (mix_same K n f g x (λ j l. h j (omega arith))) (ap (λ (a : ℕ). K.mul a (x n)) (h n (omega arith)))
 
--- the factors' digits from the place on, one place further down
-pub combine_next : {K : Ops} → FieldLaws K → Digits K → (n w s : ℕ) (f x : ℕ → ℕ) (old twice new : ℕ) → s < w
+-- the factors' digits from the place p on, one place further down
+pub combine_next : {K : Ops} → FieldLaws K → Digits K → (n p : ℕ) (f x : ℕ → ℕ) (old twice new : ℕ)
     → ((j : ℕ) → j < n → f j < K.order) → ((j : ℕ) → j < n → x j < K.order)
-    → old ≡ sum 0 K.add n (λ j. K.mul (f j / 2 ^ (w - s)) (x j)) → twice ≡ K.mul 2 old
-    → new ≡ gained_all K n (λ j. f j / 2 ^ (w - 1 - s) % 2) x twice
-    → new ≡ sum 0 K.add n (λ j. K.mul (f j / 2 ^ (w - (s + 1))) (x j))
-combine_next {K} L D n w s f x old twice new h wf wx eo et en =
-    let p : ℕ = w - (s + 1) in
-    let up : p + 1 ≡ w - s = omega arith in
-    let same : w - 1 - s ≡ p = omega arith in
+    → old ≡ sum 0 K.add n (λ j. K.mul (f j / 2 ^ (p + 1)) (x j)) → twice ≡ K.mul 2 old
+    → new ≡ gained_all K n (λ j. f j / 2 ^ p % 2) x twice
+    → new ≡ sum 0 K.add n (λ j. K.mul (f j / 2 ^ p) (x j))
+combine_next {K} L D n p f x old twice new wf wx eo et en =
     let parts : (k j : ℕ) → j < n → f j / 2 ^ k < K.order = λ k j l. omega (arith, wf j l, shr_le (f j) k) in
     let two : twice < K.order = subst (λ (v : ℕ). v < K.order) (sym et)
-    (L.mul_below 2 old D.two_below (subst (λ (v : ℕ). v < K.order) (sym eo) (mix_below L n (λ j. f j / 2 ^ (w - s)) x (parts (w - s)) wx))) in
-    en ∙ ap (λ (k : ℕ). gained_all K n (λ j. f j / 2 ^ k % 2) x twice) same
+    (L.mul_below 2 old D.two_below (subst (λ (v : ℕ). v < K.order) (sym eo) (mix_below L n (λ j. f j / 2 ^ (p + 1)) x (parts (p + 1)) wx))) in
+    en
     ∙ gained_all_sum L n (λ j. f j / 2 ^ p % 2) x twice (λ j l. omega arith) wx two
     ∙ ap (λ (v : ℕ). K.add v (sum 0 K.add n (λ j. K.mul (f j / 2 ^ p % 2) (x j))))
-    (et ∙ ap (K.mul 2) (eo ∙ mix_same K n (λ j. f j / 2 ^ (w - s)) (λ j. f j / 2 ^ p / 2) x (λ j l. ap (λ (k : ℕ). f j / 2 ^ k) (sym up) ∙ sym (shr-shr (f j) p 1))))
+    (et ∙ ap (K.mul 2) (eo ∙ mix_same K n (λ j. f j / 2 ^ (p + 1)) (λ j. f j / 2 ^ p / 2) x (λ j l. sym (shr-shr (f j) p 1))))
     ∙ sym (mix_double L D n (λ j. f j / 2 ^ p) x (parts p) wx)
 
 -- each place holds the sum for the digits of the factors from the place p on
@@ -150,19 +147,16 @@ pub record DigitsDone (K : Ops) (p : ℕ) (rows factors : List ℕ) (w : ℕ) (o
   pub at : (k : ℕ) → k < w → get_or out k 0 ≡ sum 0 K.add (length factors) (λ j. K.mul (get_or factors j 0 / 2 ^ p) (get_or rows (j * w + k) 0))
 
 -- nothing of a code stands above its digits
-pub combine_none : {K : Ops} → FieldLaws K → Digits K → (n v : ℕ) (f x : ℕ → ℕ) → v ≡ K.width
+pub combine_none : {K : Ops} → FieldLaws K → Digits K → (n : ℕ) (f x : ℕ → ℕ)
     → ((j : ℕ) → j < n → f j < K.order) → ((j : ℕ) → j < n → x j < K.order)
-    → sum 0 K.add n (λ j. K.mul (f j / 2 ^ (v - 0)) (x j)) ≡ 0
-combine_none {K} L D n v f x e wf wx =
-    mix_none L n (λ j. f j / 2 ^ (v - 0)) x
-    (λ j l. let d : v - 0 ≡ K.width = omega arith in
-    let fits : f j < 2 ^ K.width = omega (arith, wf j l, D.order_fits) in
-    ap (λ (k : ℕ). f j / 2 ^ k) d ∙ div-eq_of_lt fits) wx
+    → sum 0 K.add n (λ j. K.mul (f j / 2 ^ K.width) (x j)) ≡ 0
+combine_none {K} L D n f x wf wx =
+    mix_none L n (λ j. f j / 2 ^ K.width) x
+    (λ j l. let fits : f j < 2 ^ K.width = omega (arith, wf j l, D.order_fits) in div-eq_of_lt fits) wx
 
 -- and all of it from the lowest on
-pub combine_all : (K : Ops) (n w s : ℕ) (f x : ℕ → ℕ) → w ≤ s → sum 0 K.add n (λ j. K.mul (f j / 2 ^ (w - s)) (x j)) ≡ sum 0 K.add n (λ j. K.mul (f j) (x j))
-combine_all K n w s f x h =
-    mix_same K n (λ j. f j / 2 ^ (w - s)) f x (λ j l. let z : w - s ≡ 0 = omega arith in ap (λ (k : ℕ). f j / 2 ^ k) z ∙ div-one (f j))
+pub combine_all : (K : Ops) (n : ℕ) (f x : ℕ → ℕ) → sum 0 K.add n (λ j. K.mul (f j / 2 ^ 0) (x j)) ≡ sum 0 K.add n (λ j. K.mul (f j) (x j))
+combine_all K n f x = mix_same K n (λ j. f j / 2 ^ 0) f x (λ j l. div-one (f j))
 
 module _ {K : Ops} (L : FieldLaws K) (rows factors : List ℕ) (w : ℕ) (wf : Codes K.order factors) (wx : Codes K.order rows)
     (size : length rows ≡ length factors * w) where
@@ -173,24 +167,24 @@ module _ {K : Ops} (L : FieldLaws K) (rows factors : List ℕ) (w : ℕ) (wf : C
   combination_below k h = mix_below L (length factors) (λ j. get_or factors j 0) (λ j. get_or rows (j * w + k) 0) wf (entry_below k h)
 
   module _ (D : Digits K) where
-    pub done_start : (v : ℕ) (zeros : List ℕ) → v ≡ K.width → ((k : ℕ) → k < w → get_or zeros k 0 ≡ 0) → DigitsDone K (v - 0) rows factors w zeros
-    done_start v zeros e z = record {
-      at = λ k h. z k h ∙ sym (combine_none L D (length factors) v (λ j. get_or factors j 0) (λ j. get_or rows (j * w + k) 0) e wf (entry_below k h));
+    pub done_start : (zeros : List ℕ) → ((k : ℕ) → k < w → get_or zeros k 0 ≡ 0) → DigitsDone K K.width rows factors w zeros
+    done_start zeros z = record {
+      at = λ k h. z k h ∙ sym (combine_none L D (length factors) (λ j. get_or factors j 0) (λ j. get_or rows (j * w + k) 0) wf (entry_below k h));
     }
 
-    pub done_next : (v s : ℕ) (out twice after : List ℕ) → s < v → DigitsDone K (v - s) rows factors w out
+    pub done_next : (p : ℕ) (out twice after : List ℕ) → DigitsDone K (p + 1) rows factors w out
         → ((k : ℕ) → k < w → get_or twice k 0 ≡ K.mul 2 (get_or out k 0))
-        → ((k : ℕ) → k < w → get_or after k 0 ≡ gained_all K (length factors) (λ j. get_or factors j 0 / 2 ^ (v - 1 - s) % 2) (λ j. get_or rows (j * w + k) 0) (get_or twice k 0))
-        → DigitsDone K (v - (s + 1)) rows factors w after
-    done_next v s out twice after h d e2 eg = record {
-      at = λ k l. combine_next L D (length factors) v s (λ j. get_or factors j 0) (λ j. get_or rows (j * w + k) 0) (get_or out k 0) (get_or twice k 0) (get_or after k 0)
-          h wf (entry_below k l) (d.at k l) (e2 k l) (eg k l);
+        → ((k : ℕ) → k < w → get_or after k 0 ≡ gained_all K (length factors) (λ j. get_or factors j 0 / 2 ^ p % 2) (λ j. get_or rows (j * w + k) 0) (get_or twice k 0))
+        → DigitsDone K p rows factors w after
+    done_next p out twice after d e2 eg = record {
+      at = λ k l. combine_next L D (length factors) p (λ j. get_or factors j 0) (λ j. get_or rows (j * w + k) 0) (get_or out k 0) (get_or twice k 0) (get_or after k 0)
+          wf (entry_below k l) (d.at k l) (e2 k l) (eg k l);
     }
 
-pub done_end : (K : Ops) (rows factors : List ℕ) (w v s : ℕ) (out : List ℕ) → v ≤ s → DigitsDone K (v - s) rows factors w out
+pub done_end : (K : Ops) (rows factors : List ℕ) (w : ℕ) (out : List ℕ) → DigitsDone K 0 rows factors w out
     → (k : ℕ) → k < w → get_or out k 0 ≡ combination K w rows factors k
-done_end K rows factors w v s out h d k l =
-    d.at k l ∙ combine_all K (length factors) v s (λ j. get_or factors j 0) (λ j. get_or rows (j * w + k) 0) h
+done_end K rows factors w out d k l =
+    d.at k l ∙ combine_all K (length factors) (λ j. get_or factors j 0) (λ j. get_or rows (j * w + k) 0)
 
 -- the rows before that of the place i of the list, and the places before it in its row, have been gone through
 pub record CombinedTo (K : Ops) (w : ℕ) (rows factors : List ℕ) (i : ℕ) (out : List ℕ) : Type 0 where

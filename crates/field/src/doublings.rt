@@ -5,6 +5,7 @@ ghost use Rattle.field.specs.Rows.{Combined, GainMultiples, Gains, Multiple, Wip
 ghost use Rattle.field.specs.Digits.{Digits, GainWhere, Gathered};
 
 // A field whose codes are read in base two: a code is its lowest digit plus the element coded 2 times the code of the rest.
+// Not a trait of which Field is a part: the check does not cover methods whose generic callee leads back to their own impl.
 pub trait Doubling {
     ghost arith: { Ops };
 
@@ -41,8 +42,9 @@ fn add_where<D: Doubling>(rows: &mut [u16], factors: &[u16], place: u32, row: &[
     ensures value { GainWhere D.arith place rows.old factors.now row.now rows.new }
 {
     let len = row.len();
-    for r in 0..factors.len() {
-        if (factors[r] >> place) % 2 == 1 {
+    // By index: of what is written through chunks_exact_mut only the length is known.
+    for (r, factor) in factors.iter().enumerate() {
+        if (*factor >> place) % 2 == 1 {
             let from = r * len;
             D::plus_row(&mut rows[from..from + len], row);
         }
@@ -60,8 +62,7 @@ pub fn spread<D: Doubling>(rows: &mut [u16], factors: &[u16], row: &mut [u16])
     ensures value { GainMultiples D.arith rows.old factors.now row.old rows.new }
     ensures wiped { Wiped row.new }
 {
-    let places = D::places();
-    for place in 0..places {
+    for place in 0..D::places() {
         add_where::<D>(rows, factors, place, row);
         D::double_row(row);
     }
@@ -77,11 +78,12 @@ fn gather<D: Doubling>(out: &mut [u16], rows: &[u16], factors: &[u16], place: u3
     ensures codes { Codes D.arith.order out.new }
     ensures value { Gathered D.arith place out.old rows.now factors.now out.new }
 {
-    let len = out.len();
-    for r in 0..factors.len() {
-        if (factors[r] >> place) % 2 == 1 {
-            let from = r * len;
-            D::plus_row(out, &rows[from..from + len]);
+    if out.is_empty() {
+        return;
+    }
+    for (row, factor) in rows.chunks_exact(out.len()).zip(factors) {
+        if (*factor >> place) % 2 == 1 {
+            D::plus_row(out, row);
         }
     }
 }
@@ -96,9 +98,8 @@ pub fn combine<D: Doubling>(out: &mut [u16], rows: &[u16], factors: &[u16])
     ensures value { Combined D.arith rows.now factors.now out.new }
 {
     out.fill(0);
-    let places = D::places();
-    for step in 0..places {
+    for place in (0..D::places()).rev() {
         D::double_row(out);
-        gather::<D>(out, rows, factors, places - 1 - step);
+        gather::<D>(out, rows, factors, place);
     }
 }

@@ -49,7 +49,7 @@ impl Field for Gf256 {
         let mut x = a;
         let mut y = b;
         let mut r = 0;
-        for i in 0..8usize {
+        for _ in 0..8u32 {
             if y % 2 == 1 {
                 r ^= x;
             }
@@ -64,9 +64,10 @@ impl Field for Gf256 {
     }
 
     fn inv(a: u16) -> u16 {
-        INVERSES[a as usize]
+        INVERSES[usize::from(a)]
     }
 
+    // Here and modulo 257 alike: Field and Doubling stand apart, for the reason at Doubling.
     fn add_row(out: &mut [u16], row: &[u16]) {
         Gf256::plus_row(out, row);
     }
@@ -92,14 +93,15 @@ impl Doubling for Gf256 {
     }
 
     fn plus_row(out: &mut [u16], row: &[u16]) {
-        for k in 0..out.len() {
-            out[k] ^= row[k];
+        // By index: of what is written through a zip of iter_mut only the length is known.
+        for (k, x) in out.iter_mut().enumerate() {
+            *x ^= row[k];
         }
     }
 
     fn double_row(row: &mut [u16]) {
-        for k in 0..row.len() {
-            row[k] = times_x(row[k]);
+        for x in row.iter_mut() {
+            *x = times_x(*x);
         }
     }
 }
@@ -110,6 +112,7 @@ pub fn product(a: u8, b: u8) -> u8
     ensures remainder { Remainder (carryless a b) result }
     ensures only { (s : ℕ) → Remainder (carryless a b) s → s ≡ result }
 {
-    let p = Gf256::mul(a as u16, b as u16);
+    let p = Gf256::mul(u16::from(a), u16::from(b));
+    // as, where it is proved to lose nothing: try_from with unwrap says no more.
     p as u8
 }

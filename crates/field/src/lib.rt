@@ -12,10 +12,12 @@ mod inverses257;
 pub mod mod257;
 
 // A field on codes: whole numbers from 0 to order - 1, of which 0 is the zero and 1 the one.
+// Rows are parts of buffers that callers lend: that they hold codes is said in contracts, a type would ask more of callers.
 pub trait Field {
     ghost ops: { Ops };
 
-    // The field code, 0 to 3: the number by which a piece says which field it was cut with.
+    // The field code, 0 to 3: the number by which a piece says which field it was cut with. A number, since a piece's
+    // header holds it.
     fn code() -> u8
         ensures { result ≡ ops.code };
 
@@ -55,8 +57,9 @@ pub trait Field {
         ensures codes { Codes ops.order out.new }
         ensures value { Gains ops out.old row.now out.new }
     {
-        for k in 0..out.len() {
-            out[k] = Self::add(out[k], row[k]);
+        // By index: of what is written through a zip of iter_mut only the length is known.
+        for (k, x) in out.iter_mut().enumerate() {
+            *x = Self::add(*x, row[k]);
         }
     }
 
@@ -72,9 +75,10 @@ pub trait Field {
         ensures wiped { Wiped row.new }
     {
         let len = row.len();
-        for i in 0..rows.len() {
+        // By place: of what is written through chunks_exact_mut only the length is known.
+        for (i, x) in rows.iter_mut().enumerate() {
             let term = Self::mul(factors[i / len], row[i % len]);
-            rows[i] = Self::add(rows[i], term);
+            *x = Self::add(*x, term);
         }
         row.fill(0);
     }
@@ -90,8 +94,9 @@ pub trait Field {
     {
         out.fill(0);
         let len = out.len();
-        for i in 0..rows.len() {
-            let term = Self::mul(factors[i / len], rows[i]);
+        // The place goes round in out while the rows go by: chunks would need a zip of iter_mut inside.
+        for (i, x) in rows.iter().enumerate() {
+            let term = Self::mul(factors[i / len], *x);
             out[i % len] = Self::add(out[i % len], term);
         }
     }
@@ -135,7 +140,7 @@ pub fn byte_code<F: Field>(byte: u8) -> u16
     ensures code { result < F.ops.order }
     ensures value { result ≡ byte }
 {
-    byte as u16
+    u16::from(byte)
 }
 
 // Sums worked by hand come out as written. Answers how many the table has.

@@ -41,7 +41,8 @@ impl Field for Mod257 {
     }
 
     fn mul(a: u16, b: u16) -> u16 {
-        ((a as u32 * b as u32) % 257) as u16
+        // as, where it is proved to lose nothing: try_from with unwrap says no more.
+        ((u32::from(a) * u32::from(b)) % 257) as u16
     }
 
     fn neg(a: u16) -> u16 {
@@ -49,9 +50,10 @@ impl Field for Mod257 {
     }
 
     fn inv(a: u16) -> u16 {
-        INVERSES[a as usize]
+        INVERSES[usize::from(a)]
     }
 
+    // Here and in GF(2^8) alike: Field and Doubling stand apart, for the reason at Doubling.
     fn add_row(out: &mut [u16], row: &[u16]) {
         Mod257::plus_row(out, row);
     }
@@ -77,14 +79,15 @@ impl Doubling for Mod257 {
     }
 
     fn plus_row(out: &mut [u16], row: &[u16]) {
-        for k in 0..out.len() {
-            out[k] = folded(out[k] + row[k]);
+        // By index: of what is written through a zip of iter_mut only the length is known.
+        for (k, x) in out.iter_mut().enumerate() {
+            *x = folded(*x + row[k]);
         }
     }
 
     fn double_row(row: &mut [u16]) {
-        for k in 0..row.len() {
-            row[k] = folded(row[k] * 2);
+        for x in row.iter_mut() {
+            *x = folded(*x * 2);
         }
     }
 }

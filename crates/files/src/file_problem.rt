@@ -2,13 +2,6 @@
 use std::alloc::{AllocError, AllocFailed};
 use std::{fmt, io};
 
-// What could not be removed of the pieces that were written.
-#[derive(Drop)]
-pub enum Left {
-    Nothing,
-    File(String),
-}
-
 #[derive(Drop)]
 pub enum FileProblem {
     NotRead(String, io::Error),
@@ -16,20 +9,9 @@ pub enum FileProblem {
     NoFolder(String, io::Error),
     NotAFolder(String),
     Exists(String),
-    NotWritten(String, io::Error, Left),
+    // With what could not be removed of the pieces that were written.
+    NotWritten(String, io::Error, Option<String>),
     Memory,
-}
-
-impl fmt::Display for Left {
-    fn fmt<W: fmt::Write>(&self, f: &mut fmt::Formatter<W>) -> fmt::Result {
-        match self {
-            Left::Nothing => write!(f, "no piece is left behind"),
-            Left::File(path) => {
-                let path = path.as_str().escape_debug();
-                write!(f, "'{path}' could not be removed")
-            }
-        }
-    }
 }
 
 impl fmt::Display for FileProblem {
@@ -57,7 +39,12 @@ impl fmt::Display for FileProblem {
             }
             FileProblem::NotWritten(path, e, left) => {
                 let path = path.as_str().escape_debug();
-                write!(f, "cannot write '{path}': {e}; {left}")
+                write!(f, "cannot write '{path}': {e}; ")?;
+                let Some(left) = left else {
+                    return write!(f, "no piece is left behind");
+                };
+                let left = left.as_str().escape_debug();
+                write!(f, "'{left}' could not be removed")
             }
             FileProblem::Memory => write!(f, "no memory is left"),
         }

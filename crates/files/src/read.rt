@@ -25,10 +25,7 @@ fn piece_bytes(rt: &HostRuntime, file: &String) -> io::Result<Vec<u8>> {
 }
 
 fn named(file: &String, bytes: io::Result<Vec<u8>>) -> Result<Vec<u8>, FileProblem> {
-    match bytes {
-        Ok(bytes) => Ok(bytes),
-        Err(e) => Err(FileProblem::NotRead(file.clone()?, e)),
-    }
+    bytes.try_map_err(|e| Ok(FileProblem::NotRead(file.clone()?, e)))
 }
 
 // The bytes of a job; `-` is standard input.

@@ -1,5 +1,5 @@
 -- What the reader accepts, and that it reads back what was cut. Assumes nothing.
-use Rattle.std.proofs.Common.{◌≡◌, ℕ, ◌+◌, ◌-◌, ◌*◌, ◌/◌, ◌%◌, ◌^◌, ◌<◌, ◌≤◌, Bool, true, false, cond, eqb, leb, List, ◌∷◌, ◌++◌, length, get_or, drop, sym, refl, ap, ◌∙◌, subst, arith, le-leb, leb-true}
+use Rattle.std.proofs.Common.{◌≡◌, ℕ, ◌+◌, ◌-◌, ◌*◌, ◌/◌, ◌%◌, ◌^◌, ◌<◌, ◌≤◌, Bool, true, false, cond, eqb, List, ◌∷◌, ◌++◌, length, get_or, drop, sym, refl, ap, ◌∙◌, subst, arith, le-leb, leb-true}
 use native.Mathlib.Decide.{dec_lt}
 use Rattle.std.proofs.lemmas.List.{get_or_past}
 use Rattle.field.specs.Laws.{Ops, FieldLaws, Bounds}
@@ -19,7 +19,7 @@ use Rattle.piece.proofs.Faults.{held_listed}
 use Rattle.piece.proofs.Fields.{code_is, header_is, code_of, header_of, ten_front, fields}
 use Rattle.piece.proofs.Headers.{header_bytes}
 use Rattle.piece.proofs.Cuts.{piece_parts}
-use Rattle.piece.proofs.Ranges.{false_true}
+use Rattle.piece.proofs.Ranges.{first_of, second_of}
 
 -- bytes that begin with a header
 record Written (code : ℕ) (H : Header) (rest bytes : List ℕ) : Type 0 where
@@ -67,21 +67,16 @@ pub record Passes (H : Header) : Type 0 where
   pub most : H.number ≤ H.settings.n
   pub short : H.length ≤ 4096
 
-all_four : (P : Type 0) (a b c d : Bool) → cond a (cond b (cond c d false) false) false ≡ true → (a ≡ true → b ≡ true → c ≡ true → d ≡ true → P) → P
-all_four P true true true d e f = f refl refl refl e
-all_four P true true false d e f = absurd (false_true e)
-all_four P true false c d e f = absurd (false_true e)
-all_four P false b c d e f = absurd (false_true e)
-
 pub passes : (H : Header) → sensible H ≡ true → Passes H
 passes H e =
-    all_four (Passes H) (leb H.settings.rows 1) (leb H.settings.m H.settings.n) (leb H.number H.settings.n) (leb H.length 4096) e
-    (λ a b c d. record {
-      kind = leb-true H.settings.rows 1 a;
-      enough = leb-true H.settings.m H.settings.n b;
-      most = leb-true H.number H.settings.n c;
-      short = leb-true H.length 4096 d;
-    })
+    let b1 = second_of _ _ e in
+    let b2 = second_of _ _ b1 in
+    record {
+      kind = leb-true H.settings.rows 1 (first_of _ _ e);
+      enough = leb-true H.settings.m H.settings.n (first_of _ _ b1);
+      most = leb-true H.number H.settings.n (first_of _ _ b2);
+      short = leb-true H.length 4096 (second_of _ _ b2);
+    }
 
 sensible_if : (H : Header) → H.settings.rows ≤ 1 → H.settings.m ≤ H.settings.n → H.number ≤ H.settings.n → H.length ≤ 4096 → sensible H ≡ true
 sensible_if H a b c d =

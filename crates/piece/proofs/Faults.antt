@@ -1,5 +1,5 @@
 -- What is wrong with packed bytes, and that it cannot be where nothing is. Assumes nothing.
-use Rattle.std.proofs.Common.{◌≡◌, ℕ, zero, suc, ◌+◌, ◌-◌, ◌*◌, ◌/◌, ◌^◌, ◌<◌, ◌≤◌, List, [], ◌∷◌, ◌++◌, length, get_or, drop, replicate, sym, refl, ap, ◌∙◌, subst, inl, inr, arith, below_more}
+use Rattle.std.proofs.Common.{◌≡◌, ℕ, zero, suc, ◌+◌, ◌-◌, ◌*◌, ◌/◌, ◌^◌, ◌<◌, ◌≤◌, List, [], ◌∷◌, ◌++◌, length, get_or, drop, replicate, sym, refl, ap, ◌∙◌, subst, inl, inr, arith, below_more, mul-le-mul_right}
 use native.Mathlib.Decide.{ℕ_discrete, dec_lt}
 use Rattle.std.specs.List.{flat_map}
 use Rattle.std.specs.Int.Digits.{AllBelowBase}
@@ -7,16 +7,14 @@ use Rattle.std.proofs.lemmas.List.{append-nil, drop_all, get_or-drop, get_or-app
 use Rattle.std.proofs.ByRecursion.{All-from_get_or}
 use Rattle.piece.specs.Bits.{bits_of, bits_in, worth_after, worth, value_in, bytes_for, BadValue, SpareOne, Fault, Holds}
 use Rattle.piece.specs.Pieces.{listed}
-use Rattle.piece.specs.declared.bits.Cursor.{Cursor}
+use Rattle.piece.specs.Stream.{unread}
+use Rattle.piece.specs.declared.bits.Reader.{Reader}
 use Rattle.piece.proofs.Octets.{length_bits_of, under_bits_of, bits_zero, worth_bits, length_joined, under_joined, length_listed, get_d_listed, value_eight, value_packed, bits_octets, packed_listed, same_packed, listed_is}
-use Rattle.piece.proofs.Unpacking.{ReadTo}
+use Rattle.piece.proofs.Unpacking.{ReadTo, read_left, length_unread}
 
 -- the first k values are below q
 pub record Passed (q w : ℕ) (bytes : List ℕ) (k : ℕ) : Type 0 where
   pub below : (i : ℕ) → i < k → value_in w bytes i < q
-
-pub passed_none : (q w : ℕ) (bytes : List ℕ) → Passed q w bytes 0
-passed_none q w bytes = record { below = λ i h. absurd (omega arith) }
 
 pub passed_more : (q w : ℕ) (bytes : List ℕ) (k v : ℕ) → v ≡ value_in w bytes k → v < q → Passed q w bytes k → Passed q w bytes (k + 1)
 passed_more q w bytes k v e h p = record { below = below_more (λ i. value_in w bytes i < q) k p.below (subst (λ (n : ℕ). n < q) e h) }
@@ -44,41 +42,40 @@ first_one (x ∷ xs) u h =
       later xs x n e f zero h = e
       later xs x n e f (suc i) h = f i (omega arith)
 
-module _ (q w : ℕ) (bytes : List ℕ) (k : ℕ) (at : Cursor) (r : ReadTo w bytes k at) (f : Passed q w bytes k) where
+module _ (q w : ℕ) (bytes : List ℕ) (k : ℕ) (reader : Reader) (r : ReadTo w bytes k reader) (f : Passed q w bytes k) where
   -- a value is not below q
-  pub bad_value : (n v p : ℕ) → k < n → v ≡ value_in w bytes k → q ≤ v → p ≡ (8 * at.next - at.bits) / 8 → Fault q w n bytes p
-  bad_value n v p h e l b =
-      let m : 8 * at.next - at.bits ≡ k * w = omega (arith, r.place) in
+  pub bad_value : (n v p : ℕ) → k < n → length bytes ≡ bytes_for w n → v ≡ value_in w bytes k → q ≤ v → p ≡ (8 * length reader.bytes.now - length (unread reader)) / 8 → Fault q w n bytes p
+  bad_value n v p h size e l b =
+      let m : 8 * length reader.bytes.now - length (unread reader) ≡ k * w = omega (arith, ap length r.same, read_left w bytes k reader r, mul-le-mul_right w h) in
       inl (record { at = k; within = h; large = subst (λ (x : ℕ). q ≤ x) e l; first = f.below; byte = b ∙ ap (λ (x : ℕ). x / 8) m })
 
   -- all values were read
   module _ (n : ℕ) (e : k ≡ n) (size : length bytes ≡ bytes_for w n) where
-    end : n * w + at.bits ≡ 8 * length bytes
-    end = omega (arith, ap (λ (x : ℕ). x * w) e, r.place, r.short.few)
+    left : length (unread reader) ≡ 8 * length bytes - n * w
+    left = read_left w bytes k reader r ∙ ap (λ (x : ℕ). 8 * length bytes - x * w) e
 
-    last : at.next ≡ length bytes
-    last = omega (arith, ap (λ (x : ℕ). x * w) e, r.place, r.short.few)
+    end : n * w + reader.bits ≡ 8 * length bytes
+    end = omega (arith, left, length_unread reader.bytes.now reader.next reader.acc reader.bits reader.within, ap length r.same, reader.few)
 
-    spare : drop (n * w) (bits_in bytes) ≡ bits_of at.bits at.acc
+    spare : drop (n * w) (bits_in bytes) ≡ bits_of reader.bits reader.acc
     spare =
-        let l = last in
-        let none : drop at.next bytes ≡ [] = drop_all at.next bytes (omega arith) in
+        let none : drop reader.next reader.bytes.now ≡ []
+        = drop_all reader.next reader.bytes.now (omega (arith, left, length_unread reader.bytes.now reader.next reader.acc reader.bits reader.within, ap length r.same, reader.few)) in
         ap (λ (x : ℕ). drop (x * w) (bits_in bytes)) (sym e) ∙ (sym r.left
-        ∙ (ap (λ (xs : List ℕ). bits_of at.bits at.acc ++ bits_in xs) none ∙ append-nil (bits_of at.bits at.acc)))
+        ∙ (ap (λ (xs : List ℕ). bits_of reader.bits reader.acc ++ bits_in xs) none ∙ append-nil (bits_of reader.bits reader.acc)))
 
-    spare_at : (i : ℕ) → get_or (bits_in bytes) (n * w + i) 0 ≡ get_or (bits_of at.bits at.acc) i 0
+    spare_at : (i : ℕ) → get_or (bits_in bytes) (n * w + i) 0 ≡ get_or (bits_of reader.bits reader.acc) i 0
     spare_at i = sym (get_or-drop (n * w) (bits_in bytes) i 0) ∙ ap (λ (xs : List ℕ). get_or xs i 0) spare
 
     passed : (i : ℕ) → i < n → value_in w bytes i < q
     passed i h = f.below i (omega arith)
 
-    pub spare_one : (p : ℕ) → 0 < at.acc → p ≡ (8 * at.next - at.bits) / 8 → Fault q w n bytes p
+    pub spare_one : (p : ℕ) → 0 < reader.acc → p ≡ (8 * length reader.bytes.now - length (unread reader)) / 8 → Fault q w n bytes p
     spare_one p h b =
-        let s = worth_bits at.bits at.acc r.short.small in
-        let o = first_one (bits_of at.bits at.acc) (under_bits_of at.bits at.acc) (omega arith) in
-        let l = length_bits_of at.bits at.acc in
+        let s = worth_bits reader.bits reader.acc reader.small in
+        let o = first_one (bits_of reader.bits reader.acc) (under_bits_of reader.bits reader.acc) (omega arith) in
+        let l = length_bits_of reader.bits reader.acc in
         let m = end in
-        let j = last in
         inr (record {
           values = passed;
           at = n * w + o.at;
@@ -88,15 +85,15 @@ module _ (q w : ℕ) (bytes : List ℕ) (k : ℕ) (at : Cursor) (r : ReadTo w by
           first = λ i g k.
               let x : n * w + (i - n * w) ≡ i = omega arith in
               ap (λ (t : ℕ). get_or (bits_in bytes) t 0) (sym x) ∙ (spare_at (i - n * w) ∙ o.before (i - n * w) (omega arith));
-          byte = omega (arith, o.within, r.short.few);
+          byte = omega (arith, left, ap length r.same, o.within, reader.few);
         })
 
-    pub no_fault : AllBelowBase 256 bytes → at.acc ≡ 0 → Holds q w bytes (listed n (value_in w bytes))
+    pub no_fault : AllBelowBase 256 bytes → reader.acc ≡ 0 → Holds q w bytes (listed n (value_in w bytes))
     no_fault u z =
         let l = length_listed n (value_in w bytes) in
         record {
           codes = λ i h. let g : i < n = omega arith in rw (get_d_listed n (value_in w bytes) i g) (passed i g);
-          bytes_are = packed_listed w n at.bits bytes u r.short.few end (spare ∙ (ap (bits_of at.bits) z ∙ bits_zero at.bits));
+          bytes_are = packed_listed w n reader.bits bytes u reader.few end (spare ∙ (ap (bits_of reader.bits) z ∙ bits_zero reader.bits));
         }
 
 -- a byte is a value, where there are 256

@@ -16,9 +16,6 @@ pub record LaidTo (m columns : ℕ) (job : List ℕ) (j : ℕ) (start cells : Li
   pub laid : (i k : ℕ) → i < j → k < columns → get_or cells (i * columns + k) 0 ≡ place m job k i
   pub rest : (i : ℕ) → j * columns ≤ i → get_or cells i 0 ≡ get_or start i 0
 
-pub laid_none : (m columns : ℕ) (job start : List ℕ) → LaidTo m columns job 0 start start
-laid_none m columns job start = record { laid = λ i k h. absurd (omega arith); rest = λ i h. refl }
-
 next_row : (j w : ℕ) → (j + 1) * w ≡ j * w + w
 next_row j w = add-mul j 1 w ∙ ap (λ (x : ℕ). j * w + x) (one-mul w)
 
@@ -42,28 +39,28 @@ laid_next m columns job start cells row j room l g v = record {
       put_behind cells row (j * columns) columns room l i b ∙ g.rest i (omega arith);
 }
 
--- the rows of all m places of a job of this length, over cells that were zeros
-module _ (m len : ℕ) (job start cells : List ℕ) (some : 1 ≤ m) (l : length job ≡ len)
-    (laid : (k j : ℕ) → k < (len + (m - 1)) / m → j < m → get_or cells (j * ((len + (m - 1)) / m) + k) 0 ≡ place m job k j)
-    (rest : (i : ℕ) → m * ((len + (m - 1)) / m) ≤ i → get_or cells i 0 ≡ get_or start i 0) where
+-- the rows of all m places of a job of this length, in so many columns, over cells that were zeros
+module _ (m len columns : ℕ) (job start cells : List ℕ) (some : 1 ≤ m) (l : length job ≡ len) (many : columns ≡ (len + (m - 1)) / m)
+    (laid : (k j : ℕ) → k < columns → j < m → get_or cells (j * columns + k) 0 ≡ place m job k j)
+    (rest : (i : ℕ) → m * columns ≤ i → get_or cells i 0 ≡ get_or start i 0) where
   -- symbol i stands at the place i % m of the column i / m
-  symbol : (i : ℕ) → i < (len + (m - 1)) / m * m → get_or cells (i % m * ((len + (m - 1)) / m) + i / m) 0 ≡ get_or job i 0
-  symbol i h =
-      laid (i / m) (i % m) ((div-lt_iff_lt-mul {k = m} (omega arith)).1 h) (mod-lt i (omega arith)) ∙ ap (λ (n : ℕ). get_or job n 0) (div-add-mod' i m)
+  symbol : (i : ℕ) → i < columns * m → get_or cells (i % m * columns + i / m) 0 ≡ get_or job i 0
+  symbol i h = laid (i / m) (i % m) ((div-lt_iff_lt-mul {k = m} (omega arith)).1 h) (mod-lt i (omega arith)) ∙ ap (λ (n : ℕ). get_or job n 0) (div-add-mod' i m)
 
-  pub filled : Filled m len ((len + (m - 1)) / m) cells
+  pub filled : Filled m len columns cells
   filled i a h = symbol i h ∙ get_or_past job i 0 (omega arith)
 
-  pub job_back : listed len (λ i. get_or cells (i % m * ((len + (m - 1)) / m) + i / m) 0) ≡ job
-  job_back = sym (listed_is job len _ l (λ i h. sym (symbol i (let r = columns_reach m len some in omega arith))))
+  pub job_back : listed len (λ i. get_or cells (i % m * columns + i / m) 0) ≡ job
+  job_back =
+      let reach : len ≤ columns * m = rw many (columns_reach m len some) in
+      sym (listed_is job len _ l (λ i h. sym (symbol i (omega arith))))
 
   pub bytes : ((i : ℕ) → get_or job i 0 < 256) → ((i : ℕ) → get_or start i 0 ≡ 0) → (i : ℕ) → get_or cells i 0 < 256
-  bytes b z i = elim (dec_lt i (m * ((len + (m - 1)) / m))) [
+  bytes b z i = elim (dec_lt i (m * columns)) [
     | yes h ↦
-        let w : ℕ = (len + (m - 1)) / m in
         subst (λ (n : ℕ). n < 256)
-        (sym (ap (λ (n : ℕ). get_or cells n 0) (sym (div-add-mod' i w)) ∙ laid (i % w) (i / w) (place_within i m w h) (row_within i m w h)))
-        (b (i % w * m + i / w))
+        (sym (ap (λ (n : ℕ). get_or cells n 0) (sym (div-add-mod' i columns)) ∙ laid (i % columns) (i / columns) (place_within i m columns h) (row_within i m columns h)))
+        (b (i % columns * m + i / columns))
     | no h ↦ subst (λ (n : ℕ). n < 256) (sym (rest i (omega arith) ∙ z i)) (lit< tt)
   ]
 

@@ -7,8 +7,9 @@ use Rattle.std.specs.Int.Digits.{AllBelowBase, number_from_digits_after}
 use Rattle.std.proofs.lemmas.Int.Digits.{number_lt}
 use Rattle.std.proofs.lemmas.List.{append-nil, length-append, length_push, length-take, length-take-le, length-drop, take_at, drop_at, drop-drop, take-append-drop, ext_get_or, get_or_push, get_or_append_left}
 use Rattle.std.proofs.ByRecursion.{All-append, All-push, All-take, All-drop}
+use Rattle.std.proofs.lemmas.Grind.{flat_map-append}
 use Rattle.std.proofs.lemmas.Nat.{shr_split}
-use Rattle.piece.specs.Bits.{bits_of, octet, octets, packed, bits_in, worth_after, worth, value_in, bytes_for}
+use Rattle.piece.specs.Bits.{bits_of, octet, octets, packed, bits_in, worth_after, worth, value_in, bytes_for, Padded}
 use Rattle.piece.specs.Pieces.{listed}
 
 -- bits of a number
@@ -103,12 +104,8 @@ pub under_joined : (w : ℕ) (xs : List ℕ) → AllBelowBase 2 (flat_map (bits_
 under_joined w [] = tt
 under_joined w (x ∷ xs) = All-append (λ d. d < 2) (bits_of w x) (flat_map (bits_of w) xs) (under_bits_of w x) (under_joined w xs)
 
-pub joined_append : (w : ℕ) (xs ys : List ℕ) → flat_map (bits_of w) (xs ++ ys) ≡ flat_map (bits_of w) xs ++ flat_map (bits_of w) ys
-joined_append w [] ys = refl
-joined_append w (x ∷ xs) ys = ap (λ (t : List ℕ). bits_of w x ++ t) (joined_append w xs ys) ∙ sym (append_assoc (bits_of w x) (flat_map (bits_of w) xs) (flat_map (bits_of w) ys))
-
 pub joined_push : (w : ℕ) (xs : List ℕ) (x : ℕ) → flat_map (bits_of w) (xs ++ (x ∷ [])) ≡ flat_map (bits_of w) xs ++ bits_of w x
-joined_push w xs x = joined_append w xs (x ∷ []) ∙ ap (λ (t : List ℕ). flat_map (bits_of w) xs ++ t) (append-nil (bits_of w x))
+joined_push w xs x = flat_map-append (bits_of w) xs (x ∷ []) ∙ ap (λ (t : List ℕ). flat_map (bits_of w) xs ++ t) (append-nil (bits_of w x))
 
 -- value k stands at the bit k * w
 pub bits_at : (w : ℕ) (vs tail : List ℕ) (k : ℕ) → k < length vs → take w (drop (k * w) (flat_map (bits_of w) vs ++ tail)) ≡ bits_of w (get_or vs k 0)
@@ -182,19 +179,6 @@ pub octets_bits_in : (bytes : List ℕ) → AllBelowBase 256 bytes → octets (b
 octets_bits_in bytes u =
     ap octets (sym (append-nil (bits_in bytes))) ∙ (octets_bytes bytes [] u ∙ (ap (λ (t : List ℕ). bytes ++ t) octets_none ∙ append-nil bytes))
 
--- fewer bits than a byte has
-pub octets_rest : (b x : ℕ) → 0 < b → b < 8 → x < 2 ^ b → octets (bits_of b x) ≡ x * 2 ^ (8 - b) ∷ []
-unfolding bits_of octets
-octets_rest zero x p q h = absurd (omega arith)
-octets_rest (suc zero) x p q h = ap (λ (t : ℕ). t ∷ []) (omega arith)
-octets_rest (suc (suc zero)) x p q h = ap (λ (t : ℕ). t ∷ []) (omega arith)
-octets_rest (suc (suc (suc zero))) x p q h = ap (λ (t : ℕ). t ∷ []) (omega arith)
-octets_rest (suc (suc (suc (suc zero)))) x p q h = ap (λ (t : ℕ). t ∷ []) (omega arith)
-octets_rest (suc (suc (suc (suc (suc zero))))) x p q h = ap (λ (t : ℕ). t ∷ []) (omega arith)
-octets_rest (suc (suc (suc (suc (suc (suc zero)))))) x p q h = ap (λ (t : ℕ). t ∷ []) (omega arith)
-octets_rest (suc (suc (suc (suc (suc (suc (suc zero))))))) x p q h = ap (λ (t : ℕ). t ∷ []) (omega arith)
-octets_rest (suc (suc (suc (suc (suc (suc (suc (suc b)))))))) x p q h = absurd (omega arith)
-
 -- bits 0 up to a whole byte change nothing
 pub octets_pad : (xs : List ℕ) (p m : ℕ) → p < 8 → length xs + p ≡ 8 * m → octets (xs ++ replicate p 0) ≡ octets xs
 unfolding octets
@@ -213,21 +197,15 @@ bits_octet : (a b c d e f g h : ℕ) → AllBelowBase 2 (a ∷ b ∷ c ∷ d ∷
 unfolding worth_after
 bits_octet a b c d e f g h u = ap (bits_of 8) (omega arith) ∙ bits_worth 8 (a ∷ b ∷ c ∷ d ∷ e ∷ f ∷ g ∷ h ∷ []) refl u
 
--- the bits, and behind them bits 0 up to a whole byte
-pub record Filled (xs bits : List ℕ) : Type 0 where
-  pub pad : ℕ
-  pub short : pad < 8
-  pub same : bits ≡ xs ++ replicate pad 0
-
 under_zeros : (p : ℕ) → AllBelowBase 2 (replicate p 0)
 under_zeros zero = tt
 under_zeros (suc p) = (omega arith, under_zeros p)
 
-short : (xs : List ℕ) (p n : ℕ) → AllBelowBase 2 xs → p < 8 → (AllBelowBase 2 (xs ++ replicate p 0) → bits_of 8 n ≡ xs ++ replicate p 0) → Filled xs (bits_of 8 n ++ [])
+short : (xs : List ℕ) (p n : ℕ) → AllBelowBase 2 xs → p < 8 → (AllBelowBase 2 (xs ++ replicate p 0) → bits_of 8 n ≡ xs ++ replicate p 0) → Padded xs (bits_of 8 n ++ [])
 short xs p n u h v =
     record { pad = p; short = h; same = append-nil (bits_of 8 n) ∙ v (All-append (λ x. x < 2) xs (replicate p 0) u (under_zeros p)) }
 
-pub bits_octets : (xs : List ℕ) → AllBelowBase 2 xs → Filled xs (bits_in (octets xs))
+pub bits_octets : (xs : List ℕ) → AllBelowBase 2 xs → Padded xs (bits_in (octets xs))
 unfolding octets
 bits_octets [] u = record { pad = 0; short = omega arith; same = refl }
 bits_octets (a ∷ []) u = short (a ∷ []) 7 (octet a 0 0 0 0 0 0 0) u (omega arith) (bits_octet a 0 0 0 0 0 0 0)

@@ -1,15 +1,16 @@
 -- The steps of packing. Assumes nothing.
-use Rattle.std.proofs.Common.{◌≡◌, ℕ, ◌+◌, ◌-◌, ◌*◌, ◌/◌, ◌%◌, ◌^◌, ◌<◌, ◌≤◌, List, [], ◌∷◌, ◌++◌, length, get_or, take, drop, set, sym, refl, ap, ◌∙◌, subst, append_assoc, mul-le-mul_right, mod-lt, add-mul, arith, pow_pos, pow_mono, pow-add}
+use Rattle.std.proofs.Common.{◌≡◌, ℕ, ◌+◌, ◌-◌, ◌*◌, ◌/◌, ◌%◌, ◌^◌, ◌<◌, ◌≤◌, List, [], ◌∷◌, ◌++◌, length, get_or, take, drop, replicate, set, sym, refl, ap, ◌∙◌, subst, append_assoc, mul-le-mul_right, mod-lt, add-mul, arith, pow_pos, pow_mono, pow-add, length-append, length-set}
 use lib.Arith.{digits_lt}
+use lib.Bits.{bit_and, bit_or}
 use Rattle.std.specs.List.{flat_map}
 use Rattle.std.specs.Int.Digits.{AllBelowBase}
-use Rattle.std.proofs.lemmas.List.{append-nil, take_more, take_more_set, take_all, drop-set-lt, drop-drop}
-use Rattle.std.proofs.ByRecursion.{All-push, All-from_get_or}
-use Rattle.std.proofs.lemmas.Nat.{shr_below, shl_below}
-use Rattle.piece.specs.Bits.{bits_of, octets, packed, bits_in, bytes_for}
-use Rattle.piece.specs.Stream.{Short, written}
-use Rattle.piece.specs.declared.bits.Cursor.{Cursor}
-use Rattle.piece.proofs.Octets.{bits_none, bits_join, bits_cut, joined_push, octets_bytes, octets_rest, octets_bits_in}
+use Rattle.std.proofs.lemmas.List.{append-nil, length-replicate, length-take-le, take_more, take_more_set, take_all, drop-set-lt, drop-drop}
+use Rattle.std.proofs.ByRecursion.{All-from_get_or}
+use Rattle.std.proofs.lemmas.Nat.{shr_below, shl_whole, or_shifted, one_shl, and_mask}
+use Rattle.piece.specs.Bits.{bits_of, octets, packed, bits_in, bytes_for, Padded}
+use Rattle.piece.specs.Stream.{written}
+use Rattle.piece.specs.declared.bits.Writer.{Writer}
+use Rattle.piece.proofs.Octets.{length_bits_of, length_joined, bits_none, bits_zero, bits_join, bits_cut, joined_push, octets_bits_in, octets_pad}
 
 pub drop_further : (xs ys : List ℕ) (i j : ℕ) → i ≤ j → drop i xs ≡ drop i ys → drop j xs ≡ drop j ys
 drop_further xs ys i j h e =
@@ -24,115 +25,151 @@ top_bits n acc bits h s = let g : bits ≡ n + (bits - n) = omega arith in shr_b
 pub below_pow : (acc bits n : ℕ) → acc < 2 ^ bits → bits ≤ n → acc < 2 ^ n
 below_pow acc bits n s h = omega (arith, pow_mono h)
 
--- the bytes that are whole were written up to here
-pub record Flushed (start : List ℕ) (from : Cursor) (out : List ℕ) (at : Cursor) : Type 0 where
-  pub small : at.acc < 2 ^ at.bits
-  pub few : at.bits < 24
-  pub place : 8 * at.next + at.bits ≡ 8 * from.next + from.bits
-  pub same : written out at ≡ written start from
-  pub bytes : AllBelowBase 256 (take at.next out)
-  pub rest : drop at.next out ≡ drop at.next start
+-- as many bits were written
+pub length_written : (w : Writer) → length (written w) ≡ 8 * w.next + w.bits
+length_written w =
+    let l : length (take w.next w.out.now) ≡ w.next = length-take-le w.next w.out.now (omega (arith, w.room)) in
+    length-append (bits_in (take w.next w.out.now)) (bits_of w.bits w.acc) ∙ omega (arith, length_joined 8 (take w.next w.out.now), length_bits_of w.bits w.acc)
 
-pub flush_step : (start : List ℕ) (from : Cursor) (out : List ℕ) (at : Cursor) → 8 ≤ at.bits → at.next < length out → Flushed start from out at
-    → Flushed start from (set out at.next (at.acc / 2 ^ (at.bits - 8))) (record { acc = at.acc % 2 ^ (at.bits - 8); bits = at.bits - 8; next = at.next + 1 })
-flush_step start from out at h l f =
-    let b = at.bits - 8 in
-    let j = at.next in
-    let x = at.acc / 2 ^ b in
-    let y = at.acc % 2 ^ b in
+-- bits and behind them those of v
+pub joined : (acc w v : ℕ) → acc < 2 ^ 16 → w ≤ 16 → v < 2 ^ w → bit_or (acc * 2 ^ w % 2 ^ 32) v ≡ acc * 2 ^ w + v
+joined acc w v s h f = ap (λ n. bit_or n v) (shl_whole acc 16 w 32 s (omega arith)) ∙ or_shifted acc w v f
+
+-- the last bits
+pub masked : (acc bits : ℕ) → bits < 32 → bit_and acc (1 * 2 ^ bits % 2 ^ 32 - 1) ≡ acc % 2 ^ bits
+masked acc bits h = ap (λ n. bit_and acc (n - 1)) (one_shl bits 32 h) ∙ and_mask acc bits
+
+-- the bytes that are whole were written up to here, of as many bits as `all` has
+pub record Flushed (start all : List ℕ) (count : ℕ) (out : List ℕ) (next acc bits : ℕ) : Type 0 where
+  pub small : acc < 2 ^ bits
+  pub few : bits < 24
+  pub place : 8 * next + bits ≡ count
+  pub size : length out ≡ length start
+  pub same : bits_in (take next out) ++ bits_of bits acc ≡ all
+  pub rest : drop next out ≡ drop next start
+
+flush_byte : (start all : List ℕ) (count : ℕ) (out : List ℕ) (next acc bits : ℕ) → 8 ≤ bits → next < length out → Flushed start all count out next acc bits
+    → Flushed start all count (set out next (acc / 2 ^ (bits - 8))) (next + 1) (acc % 2 ^ (bits - 8)) (bits - 8)
+flush_byte start all count out j acc bits h l f =
+    let b = bits - 8 in
+    let x = acc / 2 ^ b in
+    let y = acc % 2 ^ b in
     let t : take (j + 1) (set out j x) ≡ take j out ++ (x ∷ []) = take_more_set out j x l in
-    let s : 8 + b ≡ at.bits = omega arith in
+    let s : 8 + b ≡ bits = omega arith in
     record {
-      small = mod-lt at.acc (pow_pos b);
+      small = mod-lt acc (pow_pos b);
       few = omega (arith, f.few);
       place = omega (arith, f.place);
+      size = length-set out j x ∙ f.size;
       same = ap (λ (xs : List ℕ). bits_in xs ++ bits_of b y) t
           ∙ (ap (λ (xs : List ℕ). xs ++ bits_of b y) (joined_push 8 (take j out) x)
           ∙ (append_assoc (bits_in (take j out)) (bits_of 8 x) (bits_of b y)
-          ∙ (ap (λ (xs : List ℕ). bits_in (take j out) ++ xs) (sym (bits_cut 8 b at.acc) ∙ ap (λ (n : ℕ). bits_of n at.acc) s)
+          ∙ (ap (λ (xs : List ℕ). bits_in (take j out) ++ xs) (sym (bits_cut 8 b acc) ∙ ap (λ (n : ℕ). bits_of n acc) s)
           ∙ f.same)));
-      bytes = rw t (All-push (λ d. d < 256) (take j out) x f.bytes (top_bits 8 at.acc at.bits h f.small));
       rest = drop-set-lt (j + 1) out j x (omega arith) ∙ drop_further out start j (j + 1) (omega arith) f.rest;
     }
+
+pub flush_step : (start all : List ℕ) (count : ℕ) (out : List ℕ) (next acc bits : ℕ) → 8 ≤ bits → next < length out → Flushed start all count out next acc bits
+    → Flushed start all count (set out next (acc / 2 ^ (bits - 8))) (next + 1) (bit_and acc (1 * 2 ^ (bits - 8) % 2 ^ 32 - 1)) (bits - 8)
+flush_step start all count out j acc bits h l f =
+    let m = masked acc (bits - 8) (omega (arith, f.few)) in
+    subst (λ (n : ℕ). Flushed start all count (set out j (acc / 2 ^ (bits - 8))) (j + 1) n (bits - 8)) (sym m) (flush_byte start all count out j acc bits h l f)
 
 -- a value goes behind the bits
 pub join_small : (acc bits w v : ℕ) → acc < 2 ^ bits → v < 2 ^ w → acc * 2 ^ w + v < 2 ^ (bits + w)
 join_small acc bits w v h f = rw (pow-add 2 bits w) (digits_lt h f)
 
-pub write_same : (out : List ℕ) (acc bits next w v all : ℕ) → v < 2 ^ w → all ≡ acc * 2 ^ w + v
-    → bits_in (take next out) ++ bits_of (bits + w) all ≡ (bits_in (take next out) ++ bits_of bits acc) ++ bits_of w v
-write_same out acc bits next w v all h e =
-    ap (λ (n : ℕ). bits_in (take next out) ++ bits_of (bits + w) n) e
-    ∙ (ap (λ (xs : List ℕ). bits_in (take next out) ++ xs) (bits_join bits w acc v h) ∙ sym (append_assoc (bits_in (take next out)) (bits_of bits acc) (bits_of w v)))
-
--- the end, where the bits fill whole bytes
-pub finish_whole : (out : List ℕ) (at : Cursor) → at.bits ≡ 0 → AllBelowBase 256 (take at.next out) → take at.next out ≡ octets (written out at)
-finish_whole out at z u =
-    let none : bits_of at.bits at.acc ≡ [] = ap (λ (n : ℕ). bits_of n at.acc) z ∙ bits_none at.acc in
-    sym (ap (λ (xs : List ℕ). octets (bits_in (take at.next out) ++ xs)) none ∙ (ap octets (append-nil (bits_in (take at.next out))) ∙ octets_bits_in (take at.next out) u))
-
-pub last_byte : (acc bits : ℕ) → bits < 8 → acc < 2 ^ bits → acc * 2 ^ (8 - bits) < 2 ^ 8
-last_byte acc bits h s = let g : bits + (8 - bits) ≡ 8 = omega arith in subst (λ (t : ℕ). acc * 2 ^ (8 - bits) < 2 ^ t) g (shl_below acc bits (8 - bits) s)
+pub flush_none : (writer : Writer) (w v : ℕ) → w ≤ 16 → v < 2 ^ w
+    → Flushed writer.out.now (written writer ++ bits_of w v) (8 * writer.next + writer.bits + w) writer.out.now writer.next (bit_or (writer.acc * 2 ^ w % 2 ^ 32) v) (writer.bits + w)
+flush_none writer w v l h =
+    let front = bits_in (take writer.next writer.out.now) in
+    let e = joined writer.acc w v (below_pow writer.acc writer.bits 16 writer.small (omega (arith, writer.few))) l h in
+    record {
+      small = rw e (join_small writer.acc writer.bits w v writer.small h);
+      few = omega (arith, writer.few);
+      place = omega arith;
+      size = refl;
+      same = ap (λ (n : ℕ). front ++ bits_of (writer.bits + w) n) e
+          ∙ (ap (λ (xs : List ℕ). front ++ xs) (bits_join writer.bits w writer.acc v h) ∙ sym (append_assoc front (bits_of writer.bits writer.acc) (bits_of w v)));
+      rest = refl;
+    }
 
 -- the end, where bits 0 fill the last byte
-pub finish_rest : (out : List ℕ) (at : Cursor) (x : ℕ) → 0 < at.bits → Short at → at.next < length out → AllBelowBase 256 (take at.next out) → x ≡ at.acc * 2 ^ (8 - at.bits)
-    → take (at.next + 1) (set out at.next x) ≡ octets (written out at)
-finish_rest out at x p s l u e =
-    take_more_set out at.next x l
-    ∙ (ap (λ (n : ℕ). take at.next out ++ (n ∷ [])) e
-    ∙ sym (octets_bytes (take at.next out) (bits_of at.bits at.acc) u ∙ ap (λ (xs : List ℕ). take at.next out ++ xs) (octets_rest at.bits at.acc p s.few s.small)))
+module _ (w w' : Writer) (e : written w' ≡ written w ++ bits_of ((8 - w.bits) % 8) 0) where
+  finish_length : 8 * w'.next + w'.bits ≡ 8 * w.next + w.bits + (8 - w.bits) % 8
+  finish_length =
+      omega (arith, length_written w, length_written w', ap length e, length-append (written w) (bits_of ((8 - w.bits) % 8) 0), length_bits_of ((8 - w.bits) % 8) 0)
 
--- the first k values were written
-pub record PackedTo (w : ℕ) (values start : List ℕ) (k : ℕ) (out : List ℕ) (at : Cursor) : Type 0 where
-  pub short : Short at
-  pub place : 8 * at.next + at.bits ≡ k * w
-  pub same : written out at ≡ flat_map (bits_of w) (take k values)
-  pub bytes : AllBelowBase 256 (take at.next out)
-  pub rest : drop at.next out ≡ drop at.next start
+  pub finish_many : w'.next ≡ (length (written w) + 7) / 8
+  finish_many = omega (arith, finish_length, length_written w, w.few, w'.few)
 
-pub pack_none : (w : ℕ) (values start : List ℕ) → PackedTo w values start 0 start (record { acc = 0; bits = 0; next = 0 })
-pack_none w values start = record { short = record { few = omega arith; small = omega arith }; place = omega arith; same = bits_none 0; bytes = tt; rest = refl }
-
-module _ (w : ℕ) (values start : List ℕ) (k : ℕ) (out : List ℕ) (at : Cursor) (p : PackedTo w values start k out at) (h : k < length values) where
-  pub pack_room : (n : ℕ) → bytes_for w (length values) ≤ n → 8 * at.next + at.bits + w ≤ 8 * n
-  pack_room n r = omega (arith, p.place, add-mul k 1 w, mul-le-mul_right w h)
-
-  pub pack_more : (out' : List ℕ) (at' : Cursor) → Short at' → 8 * at'.next + at'.bits ≡ 8 * at.next + at.bits + w
-      → written out' at' ≡ written out at ++ bits_of w (get_or values k 0) → AllBelowBase 256 (take at'.next out') → drop at'.next out' ≡ drop at'.next out
-      → PackedTo w values start (k + 1) out' at'
-  pack_more out' at' s e f u r =
-      let more : at.next ≤ at'.next = omega (arith, s.few) in
+  pub finish_front : Padded (written w) (bits_in (take w'.next w'.out.now))
+  finish_front =
+      let front = bits_in (take w'.next w'.out.now) in
+      let z : w'.bits ≡ 0 = omega (arith, finish_length, w.few, w'.few) in
+      let none : bits_of w'.bits w'.acc ≡ [] = ap (λ (n : ℕ). bits_of n w'.acc) z ∙ bits_none w'.acc in
       record {
-        short = s;
-        place = omega (arith, p.place, add-mul k 1 w);
-        same = f ∙ (ap (λ (xs : List ℕ). xs ++ bits_of w (get_or values k 0)) p.same
-            ∙ (sym (joined_push w (take k values) (get_or values k 0)) ∙ ap (flat_map (bits_of w)) (sym (take_more values k 0 h))));
-        bytes = u;
-        rest = r ∙ drop_further out start at.next at'.next more p.rest;
+        pad = (8 - w.bits) % 8;
+        short = omega arith;
+        same = sym (ap (λ (xs : List ℕ). front ++ xs) none ∙ append-nil front) ∙ (e ∙ ap (λ (xs : List ℕ). written w ++ xs) (bits_zero ((8 - w.bits) % 8)));
       }
 
--- values of 8 bits are the bytes
-pub packed_eight : (vs : List ℕ) → ((k : ℕ) → k < length vs → get_or vs k 0 < 256) → packed 8 vs ≡ vs
-packed_eight vs f = octets_bits_in vs (All-from_get_or (λ x. x < 256) vs 0 f)
+-- the bytes are known by the bits that they hold
+octets_padded : (xs bytes : List ℕ) → AllBelowBase 256 bytes → Padded xs (bits_in bytes) → bytes ≡ octets xs
+octets_padded xs bytes u f =
+    let l : length xs + f.pad ≡ 8 * length bytes
+    = omega (arith, ap length f.same, length-append xs (replicate f.pad 0), length-replicate {A = ℕ} f.pad 0, length_joined 8 bytes) in
+    sym (octets_bits_in bytes u) ∙ (ap octets f.same ∙ octets_pad xs f.pad (length bytes) f.short l)
+
+-- the first k values were written
+pub record PackedTo (w : ℕ) (values start : List ℕ) (k : ℕ) (writer : Writer) : Type 0 where
+  pub size : length writer.out.now ≡ length start
+  pub same : written writer ≡ flat_map (bits_of w) (take k values)
+  pub rest : drop writer.next writer.out.now ≡ drop writer.next start
+
+module _ (w : ℕ) (values start : List ℕ) (k : ℕ) (writer : Writer) (p : PackedTo w values start k writer) (h : k < length values) where
+  pub pack_room : bytes_for w (length values) ≤ length start → length (written writer) + w ≤ 8 * length writer.out.now
+  pack_room r =
+      let l : length (take k values) ≡ k = length-take-le k values (omega arith) in
+      omega (arith, ap length p.same, length_joined w (take k values), ap (λ (n : ℕ). n * w) l, p.size, add-mul k 1 w, mul-le-mul_right w h)
+
+  pub pack_more : (writer' : Writer) → length writer'.out.now ≡ length writer.out.now → written writer' ≡ written writer ++ bits_of w (get_or values k 0)
+      → drop writer'.next writer'.out.now ≡ drop writer'.next writer.out.now → PackedTo w values start (k + 1) writer'
+  pack_more writer' l f r =
+      let more : writer.next ≤ writer'.next
+      = omega (arith, length_written writer, length_written writer', ap length f ∙ length-append (written writer) (bits_of w (get_or values k 0)), writer'.few) in
+      record {
+        size = l ∙ p.size;
+        same = f ∙ (ap (λ (xs : List ℕ). xs ++ bits_of w (get_or values k 0)) p.same
+            ∙ (sym (joined_push w (take k values) (get_or values k 0)) ∙ ap (flat_map (bits_of w)) (sym (take_more values k 0 h))));
+        rest = r ∙ drop_further writer.out.now start writer.next writer'.next more p.rest;
+      }
 
 -- the first k bytes are the first k values
 pub record Copied (values start : List ℕ) (k : ℕ) (out : List ℕ) : Type 0 where
   pub front : take k out ≡ take k values
   pub rest : drop k out ≡ drop k start
 
-pub copied_more : (values start : List ℕ) (k : ℕ) (out : List ℕ) → k < length values → k < length out → Copied values start k out
-    → Copied values start (k + 1) (set out k (get_or values k 0))
-copied_more values start k out h l c =
-    let x = get_or values k 0 in
-    record {
-      front = take_more_set out k x l ∙ (ap (λ (xs : List ℕ). xs ++ (x ∷ [])) c.front ∙ sym (take_more values k 0 h));
-      rest = drop-set-lt (k + 1) out k x (omega arith) ∙ drop_further out start k (k + 1) (omega arith) c.rest;
-    }
+-- values of 8 bits are the bytes
+pub copied_all : (w : ℕ) (values start : List ℕ) (k : ℕ) (out : List ℕ) → w ≡ 8 → ((i : ℕ) → i < length values → get_or values i 0 < 2 ^ w) → k ≡ length values → Copied values start k out
+    → take (length values) out ≡ packed w values
+copied_all w values start k out e f n c =
+    let b : (i : ℕ) → i < length values → get_or values i 0 < 256 = λ i h. subst (λ (x : ℕ). get_or values i 0 < 2 ^ x) e (f i h) in
+    ap (λ (i : ℕ). take i out) (sym n)
+    ∙ (c.front ∙ (take_all k values (omega arith)
+    ∙ (sym (octets_bits_in values (All-from_get_or (λ x. x < 256) values 0 b)) ∙ ap (λ (x : ℕ). packed x values) (sym e))))
 
 -- all values were written
-module _ (w : ℕ) (values start : List ℕ) (k : ℕ) (out : List ℕ) (at : Cursor) (p : PackedTo w values start k out at) (e : k ≡ length values) where
-  pub pack_place : 8 * at.next + at.bits ≡ length values * w
-  pack_place = p.place ∙ ap (λ (n : ℕ). n * w) e
+module _ (w : ℕ) (values start : List ℕ) (k : ℕ) (writer : Writer) (p : PackedTo w values start k writer) (e : k ≡ length values) where
+  pub pack_many : (length (written writer) + 7) / 8 ≡ bytes_for w (length values)
+  pack_many =
+      let l = ap length (take_all k values (omega arith)) in
+      omega (arith, ap length p.same, length_joined w (take k values), ap (λ (n : ℕ). n * w) l)
 
-  pub pack_all : octets (written out at) ≡ packed w values
-  pack_all = ap octets p.same ∙ ap (packed w) (take_all k values (omega arith))
+  -- the bytes are those of the values
+  pub pack_front : (bytes : List ℕ) → AllBelowBase 256 bytes → Padded (written writer) (bits_in bytes) → bytes ≡ packed w values
+  pack_front bytes u f = octets_padded (written writer) bytes u f ∙ (ap octets p.same ∙ ap (packed w) (take_all k values (omega arith)))
+
+-- no byte before the next is behind the end
+pub pack_further : (w : Writer) → w.next ≤ (length (written w) + 7) / 8
+pack_further w = omega (arith, length_written w)

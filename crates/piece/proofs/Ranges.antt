@@ -1,22 +1,25 @@
 -- Settings in range, and how many columns there are. Assumes nothing.
-use Rattle.std.proofs.Common.{◌≡◌, ℕ, ◌+◌, ◌-◌, ◌*◌, ◌/◌, ◌<◌, ◌≤◌, Bool, true, false, cond, refl, mul-le-mul_right, mod-lt, div-lt_iff_lt-mul, mul-le-mul_left, div-add-mod', arith, leb-true}
+use Rattle.std.proofs.Common.{◌≡◌, ℕ, ◌+◌, ◌-◌, ◌*◌, ◌/◌, ◌<◌, ◌≤◌, Bool, true, false, cond, refl, mul-le-mul_right, mod-lt, div-lt_iff_lt-mul, mul-le-mul_left, div-add-mod', arith, leb-true, le-leb}
 use native.Mathlib.Nat.{mul-div-le}
 use native.Mathlib.Decide.{dec_lt}
+use Rattle.std.proofs.lemmas.Bool.{false≢true}
 use Rattle.piece.specs.declared.Settings.{Settings}
+use Rattle.piece.specs.declared.kind.Rows.{Rows}
+use Rattle.piece.specs.declared.kind.Rows.TheVariants.{Vandermonde, Cauchy}
+use Rattle.piece.specs.declared.scheme.Scheme.{Scheme}
+use Rattle.piece.specs.Rows.{number_of}
+use Rattle.piece.specs.Schemes.{as_settings}
 use Rattle.piece.specs.Cutting.{is_in_range}
 use Rattle.piece.specs.Pieces.{Lawful}
 
-pub false_true : false ≡ true → ⊥
-false_true e = let z : ◌≡◌ {A = ℕ} 0 1 = cc in omega arith
-
 -- a test and another
-first_of : (a b : Bool) → cond a b false ≡ true → a ≡ true
+pub first_of : (a b : Bool) → cond a b false ≡ true → a ≡ true
 first_of true b e = refl
 first_of false b e = e
 
-second_of : (a b : Bool) → cond a b false ≡ true → b ≡ true
+pub second_of : (a b : Bool) → cond a b false ≡ true → b ≡ true
 second_of true b e = e
-second_of false b e = absurd (false_true e)
+second_of false b e = absurd (false≢true e)
 
 pub lawful : (S : Settings) → is_in_range S ≡ true → Lawful S
 lawful S e =
@@ -31,10 +34,20 @@ lawful S e =
       made = leb-true S.n 32 (second_of _ _ b3);
     }
 
-module _ (m len : ℕ) (some : 1 ≤ m) where
-  count : ℕ
-  count = (len + (m - 1)) / m
+-- settings in range pass the test
+pub in_range_lawful : (S : Settings) → Lawful S → is_in_range S ≡ true
+in_range_lawful S L =
+    rw (le-leb S.rows 1 L.kind, le-leb 1 S.m L.some, le-leb S.m 16 L.needed, le-leb S.m S.n L.enough, le-leb S.n 32 L.made) refl
 
+-- those of a scheme are
+kind_of : (r : Rows) → number_of r ≤ 1
+kind_of Vandermonde = omega arith
+kind_of Cauchy = omega arith
+
+pub scheme_lawful : (S : Scheme) → Lawful (as_settings S)
+scheme_lawful S = record { kind = kind_of S.rows; some = S.some; needed = S.needed; enough = S.enough; made = S.made }
+
+module _ (m len : ℕ) (some : 1 ≤ m) where
   pub columns_fit : m * ((len + (m - 1)) / m) ≤ len + (m - 1)
   columns_fit = mul-div-le (len + (m - 1)) m
 

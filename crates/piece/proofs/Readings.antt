@@ -1,28 +1,12 @@
 -- Steps of the reader. Assumes nothing.
-use Rattle.std.proofs.Common.{◌≡◌, ℕ, ◌+◌, ◌-◌, ◌*◌, ◌<◌, ◌≤◌, Bool, true, false, cond, leb, ◌⊎◌, List, [], ◌∷◌, length, get_or, drop, sym, ap, ◌∙◌, subst, inl, inr, mul-le-mul, div-le_self, arith, leb-true}
+use Rattle.std.proofs.Common.{◌≡◌, ℕ, ◌<◌, ◌≤◌, true, leb, List, [], ◌∷◌, length, get_or, drop, sym, ap, ◌∙◌, subst, arith, leb-true}
 use Rattle.field.specs.Laws.{Ops}
 use Rattle.piece.specs.declared.fault.ReadFault.{ReadFault}
 use Rattle.piece.specs.declared.fault.ReadFault.TheVariants as fault
-use Rattle.piece.proofs.Ranges.{false_true}
+use Rattle.piece.proofs.Ranges.{second_of}
 use Rattle.piece.specs.declared.Header.{Header}
-use Rattle.piece.specs.Bits.{Fault}
 use Rattle.piece.specs.Reading.{code_in, header_in, count, sensible, Headed, GoodBody, BadBody, Accepts, Refuses}
 use Rattle.piece.proofs.Fields.{code_is, header_is, code_of, header_of}
-
--- a header's numbers are small, so its columns are few
-pub count_small : (H : Header) → count H ≤ H.length + (H.settings.m - 1)
-count_small H = div-le_self (H.length + (H.settings.m - 1)) H.settings.m
-
--- and so is the byte that a fault names
-pub fault_small : (q w n : ℕ) (bytes : List ℕ) (p : ℕ) → n ≤ 70000 → w ≤ 16 → Fault q w n bytes p → (p ≤ 70000 * 16) ⊎ (p < length bytes)
-fault_small q w n bytes p hn hw (inl b) =
-    let i = b.within in
-    let s : b.at ≤ 70000 = omega arith in
-    let l : b.at * w ≤ 70000 * 16 = mul-le-mul s hw in
-    let d = div-le_self (b.at * w) 8 in
-    let e = b.byte in
-    inl (omega arith)
-fault_small q w n bytes p hn hw (inr s) = inr (let i = s.within in let e = s.byte in omega arith)
 
 -- the ten bytes named are the header of the whole
 module _ (xs : List ℕ) (l : 10 ≤ length xs) (small : (k : ℕ) → get_or xs k 0 < 256) where
@@ -44,14 +28,8 @@ module _ (xs : List ℕ) (l : 10 ≤ length xs) (small : (k : ℕ) → get_or xs
   pub few : (header_in xs).settings.m ≤ 16
   few = subst (λ (H : Header). H.settings.m ≤ 16) (sym (header_of xs l small)) (omega arith)
 
-short_last : (a b c d : Bool) → cond a (cond b (cond c d false) false) false ≡ true → d ≡ true
-short_last true true true d e = e
-short_last true true false d e = absurd (false_true e)
-short_last true false c d e = absurd (false_true e)
-short_last false b c d e = absurd (false_true e)
-
 pub short_if_sensible : (H : Header) → sensible H ≡ true → H.length ≤ 4096
-short_if_sensible H e = leb-true H.length 4096 (short_last (leb H.settings.rows 1) (leb H.settings.m H.settings.n) (leb H.number H.settings.n) (leb H.length 4096) e)
+short_if_sensible H e = leb-true H.length 4096 (second_of (leb H.number H.settings.n) _ (second_of (leb H.settings.m H.settings.n) _ (second_of (leb H.settings.rows 1) _ e)))
 
 -- the verdict on header and body is the verdict on the bytes
 module _ (K : Ops) (xs : List ℕ) (H : Header) (body : List ℕ) where

@@ -1,5 +1,5 @@
 -- Numbers in bits, the most significant first, and bits in bytes. Assumes nothing.
-use Rattle.std.specs.Prelude.{◌≡◌, ℕ, zero, suc, ◌+◌, ◌*◌, ◌/◌, ◌%◌, ◌<◌, ◌≤◌, ◌⊎◌, List, [], ◌∷◌, ◌++◌, length, take, drop, slice_index, slice_index_or}
+use Rattle.std.specs.Prelude.{◌≡◌, ℕ, zero, suc, ◌+◌, ◌*◌, ◌/◌, ◌%◌, ◌<◌, ◌≤◌, ◌⊎◌, List, [], ◌∷◌, ◌++◌, length, take, drop, replicate, slice_index, slice_index_or}
 use Rattle.std.specs.List.{flat_map}
 
 -- the last w bits of a number
@@ -30,6 +30,12 @@ packed w values = octets (flat_map (bits_of w) values)
 -- the bits of bytes
 abbrev pub bits_in : List ℕ → List ℕ
 bits_in bytes = flat_map (bits_of 8) bytes
+
+-- the bits, and behind them bits 0 up to a whole byte
+pub record Padded (xs bits : List ℕ) : Type 0 where
+  pub pad : ℕ
+  pub short : pad < 8
+  pub same : bits ≡ xs ++ replicate pad 0
 
 -- the number that bits write, behind those that write n
 unfoldable pub worth_after : ℕ → List ℕ → ℕ

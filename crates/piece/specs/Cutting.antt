@@ -45,4 +45,4 @@ written (Err f) bytes out = out
 
 -- the job that is laid out
 unfoldable pub job_of : Layout → List ℕ
-job_of L = listed L.length (λ i. cell_at L.columns L.cells (i / L.settings.m) (i % L.settings.m))
+job_of L = listed L.length (λ i. cell_at L.columns L.cells (i / L.scheme.m) (i % L.scheme.m))

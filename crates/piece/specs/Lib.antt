@@ -1,5 +1,6 @@
 pub mod Bits
 pub mod Stream
+pub mod Rows
 pub mod Pieces
 pub mod Layouts
 pub mod Cutting
@@ -7,3 +8,5 @@ pub mod Columns
 pub mod Worked
 pub mod Reading
 pub mod Composed
+pub mod Schemes
+pub mod Guesses

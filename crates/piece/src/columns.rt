@@ -1,15 +1,48 @@
 // What the columns of pieces tell: how far two jobs are apart, and what m - 1 symbols leave open.
-ghost use Rattle.std.specs.Prelude.{◌≡◌, ℕ, ◌+◌, ◌-◌, ◌*◌, ◌<◌, ◌≤◌, true, false, ◌≢◌, length, slice_index};
+ghost use Rattle.std.specs.Prelude.{◌≡◌, ℕ, ◌+◌, ◌-◌, ◌*◌, ◌<◌, ◌≤◌, true, false, ◌≢◌, length, IfErr, MatchOption, MatchResult, OnErr, OnOk, slice_index};
+ghost use Rattle.algebra.specs.Field.{Distinct};
 ghost use Rattle.algebra.specs.Flat.{cell};
 ghost use Rattle.field.specs.Laws.{Codes};
 ghost use Rattle.piece.specs.Columns.{Candidate, Distance, Hiding, InRange, Numbers, System};
-ghost use Rattle.piece.specs.Pieces.{Lawful, entry};
+ghost use Rattle.piece.specs.Guesses.{Answers, Refuses, Stands};
+ghost use Rattle.piece.specs.Pieces.{entry};
+ghost use Rattle.piece.specs.Schemes.{as_settings};
 
 use crate::Settings;
 use crate::entries::entries;
-use crate::layout::cut::in_range;
+use crate::kind::Rows;
+use crate::scheme::Scheme;
 use algebra::eliminate;
 use field::Field;
+
+// What m - 1 pieces show of a column, and what is guessed to stand at one of its places.
+#[derive(Clone, Copy, Debug)]
+pub struct Guess<'a> {
+    pub settings: Settings,
+    // The pieces' numbers, and their symbols of the column in the same order.
+    pub numbers: &'a [u8],
+    pub symbols: &'a [u16],
+    // The place, counted from 0, and the element there.
+    pub place: usize,
+    pub value: u16,
+}
+
+// What is out of range where no column is found.
+#[derive(Clone, Copy, Debug, PartialEq)]
+pub enum OutOfRange {
+    // The rows are not Cauchy's, or m or n is out of its range.
+    Settings,
+    // The numbers are not m - 1 different ones from 1 to n.
+    Numbers,
+    // The symbols are not m - 1 codes.
+    Symbols,
+    // The place is not below m.
+    Place,
+    // The value is no code.
+    Value,
+    // The column has not exactly m entries.
+    Room,
+}
 
 // Where two jobs of equal length differ in a column, at most m - 1 of their n symbols of it are equal; and any m - 1
 // symbols of a column cut with Cauchy rows leave every element at every place possible, in exactly one way. Both hold
@@ -22,18 +55,25 @@ pub fn columns_stand<F: Field>() -> u8
     2
 }
 
-// Whether a number stands before too.
-fn repeated(numbers: &[u8], i: usize) -> bool
+// Where the number at an index stands before, if it does.
+fn earlier(numbers: &[u8], i: usize) -> Option<usize>
     requires { i < length numbers.now }
-    ensures yes { result ≡ true → ((k : ℕ) × (k < i) × (slice_index numbers.now k ≡ slice_index numbers.now i)) }
-    ensures no { result ≡ false → (k : ℕ) → k < i → slice_index numbers.now k ≢ slice_index numbers.now i }
+    ensures cases { MatchOption result ((k : ℕ) → k < i → slice_index numbers.now k ≢ slice_index numbers.now i) (λ k. (k < i) × (slice_index numbers.now k ≡ slice_index numbers.now i)) }
 {
-    for k in 0..i {
-        if numbers[k] == numbers[i] {
-            return true;
+    numbers[..i].iter().position(|number| *number == numbers[i])
+}
+
+// Where a number stands twice, if one does.
+pub fn twice(numbers: &[u8]) -> Option<(usize, usize)>
+    ensures cases { MatchOption result (Distinct (length numbers.now) (λ k. slice_index numbers.now k)) (λ x. (x.0 < x.1) × (x.1 < length numbers.now) × (slice_index numbers.now x.0 ≡ slice_index numbers.now x.1)) }
+{
+    // Both answers are indices, so the loop counts them.
+    for second in 0..numbers.len() {
+        if let Some(first) = earlier(numbers, second) {
+            return Some((first, second));
         }
     }
-    false
+    None
 }
 
 // Whether numbers are 1 to n and all different.
@@ -41,18 +81,7 @@ fn numbers_differ(numbers: &[u8], n: u8) -> bool
     ensures yes { result ≡ true → Numbers n numbers.now }
     ensures no { result ≡ false → Numbers n numbers.now → ⊥ }
 {
-    for i in 0..numbers.len() {
-        if numbers[i] < 1 {
-            return false;
-        }
-        if numbers[i] > n {
-            return false;
-        }
-        if repeated(numbers, i) {
-            return false;
-        }
-    }
-    true
+    numbers.iter().all(|number| (1..=n).contains(number)) && twice(numbers).is_none()
 }
 
 // Whether all symbols are codes.
@@ -60,42 +89,7 @@ fn are_codes<F: Field>(symbols: &[u16]) -> bool
     ensures yes { result ≡ true → Codes F.ops.order symbols.now }
     ensures no { result ≡ false → Codes F.ops.order symbols.now → ⊥ }
 {
-    for i in 0..symbols.len() {
-        if symbols[i] >= F::order() {
-            return false;
-        }
-    }
-    true
-}
-
-// Whether a column may be asked for with these, into so much room.
-fn asked<F: Field>(
-    settings: Settings,
-    numbers: &[u8],
-    symbols: &[u16],
-    place: usize,
-    value: u16,
-    room: usize,
-) -> bool
-    ensures yes { result ≡ true → InRange F.ops settings numbers.now symbols.now place value room }
-    ensures no { result ≡ false → InRange F.ops settings numbers.now symbols.now place value room → ⊥ }
-{
-    if !in_range(settings) {
-        return false;
-    }
-    let m = settings.m as usize;
-    if settings.rows != 1
-        || numbers.len() != m - 1
-        || symbols.len() != m - 1
-        || place >= m
-        || room != m
-    {
-        return false;
-    }
-    if value >= F::order() {
-        return false;
-    }
-    numbers_differ(numbers, settings.n) && are_codes::<F>(symbols)
+    symbols.iter().all(|symbol| *symbol < F::order())
 }
 
 // The row that reads a place, and the value there behind it.
@@ -112,110 +106,98 @@ fn read_place(row: &mut [u16], place: usize, value: u16)
 }
 
 // The row of a piece, and its symbol behind it.
-fn read_piece<F: Field>(row: &mut [u16], settings: Settings, number: u8, symbol: u16)
-    requires lawful { Lawful settings }
+fn read_piece<F: Field>(row: &mut [u16], scheme: Scheme, number: u8, symbol: u16)
     requires least { 1 ≤ number }
-    requires most { number ≤ settings.n }
+    requires most { number ≤ scheme.n }
     requires code { symbol < F.ops.order }
-    requires places { length row.old ≡ settings.m + 1 }
+    requires places { length row.old ≡ scheme.m + 1 }
     ensures codes { Codes F.ops.order row.new }
-    ensures entries { (j : ℕ) → j < settings.m → slice_index row.new j ≡ entry F.ops settings number j }
-    ensures symbol { slice_index row.new settings.m ≡ symbol }
+    ensures entries { (j : ℕ) → j < scheme.m → slice_index row.new j ≡ entry F.ops (as_settings scheme) number j }
+    ensures symbol { slice_index row.new scheme.m ≡ symbol }
 {
-    let m = settings.m as usize;
-    entries::<F>(&mut row[0..m], settings, number);
+    let m = scheme.m as usize;
+    entries::<F>(&mut row[..m], scheme, number);
     row[m] = symbol;
 }
 
-// The system that the column solves, row after row.
-fn lay_system<F: Field>(
-    grid: &mut [u16],
-    settings: Settings,
-    numbers: &[u8],
-    symbols: &[u16],
-    place: usize,
-    value: u16,
-)
-    requires asked { InRange F.ops settings numbers.now symbols.now place value settings.m }
-    requires size { length grid.old ≡ settings.m * (settings.m + 1) }
-    ensures { System F.ops settings numbers.now symbols.now place value grid.new }
-{
-    let w = settings.m as usize + 1;
-    read_place(&mut grid[0..w], place, value);
-    for r in 0..numbers.len() {
-        let from = (r + 1) * w;
-        read_piece::<F>(&mut grid[from..from + w], settings, numbers[r], symbols[r]);
-    }
-}
-
 // Copies the last column of rows that are one longer than there are rows.
+#[tactic(auto, unfolding(algebra::specs::Flat::cell))]
 fn copy_last(column: &mut [u16], rows: &[u16])
     requires few { length column.old ≤ 16 }
     requires size { length rows.now ≡ length column.old * (length column.old + 1) }
     ensures { (j : ℕ) → j < length column.old → slice_index column.new j ≡ cell (length column.old + 1) rows.now j (length column.old) }
 {
     let m = column.len();
-    for j in 0..m {
-        column[j] = rows[j * (m + 1) + m];
+    // By index: of what is written through a zip of iter_mut only the length is known.
+    for (j, symbol) in column.iter_mut().enumerate() {
+        *symbol = rows[j * (m + 1) + m];
     }
 }
 
-// Writes the column that fits; grid, factors and row are scratch.
-fn find<F: Field>(
-    settings: Settings,
-    numbers: &[u8],
-    symbols: &[u16],
-    place: usize,
-    value: u16,
-    column: &mut [u16],
-    grid: &mut [u16],
-    factors: &mut [u16],
-    row: &mut [u16],
-)
-    requires asked { InRange F.ops settings numbers.now symbols.now place value (length column.old) }
-    requires size { length grid.old ≡ settings.m * (settings.m + 1) }
-    requires factors { length factors.old ≡ settings.m }
-    requires row { length row.old ≡ settings.m + 1 }
-    ensures { Candidate F.ops settings numbers.now symbols.now place value column.new }
-{
-    lay_system::<F>(grid, settings, numbers, symbols, place, value);
-    eliminate::<F>(grid, factors, row);
-    copy_last(column, grid);
-}
-
-// Writes the one column that has the value at the place and gives the symbols of the m - 1 pieces of these numbers, cut
-// with Cauchy rows. It must have exactly m entries. Answers whether the arguments are in range; where they are not, the
-// column is left as it was.
-pub fn candidate<F: Field>(
-    settings: Settings,
-    numbers: &[u8],
-    symbols: &[u16],
-    place: usize,
-    value: u16,
-    column: &mut [u16],
-) -> bool
-    ensures asked { result ≡ true → InRange F.ops settings numbers.now symbols.now place value (length column.old) }
-    ensures refused { result ≡ false → InRange F.ops settings numbers.now symbols.now place value (length column.old) → ⊥ }
-    ensures fits { result ≡ true → Candidate F.ops settings numbers.now symbols.now place value column.new }
-    ensures kept { result ≡ false → column.new ≡ column.old }
-{
-    if !asked::<F>(settings, numbers, symbols, place, value, column.len()) {
-        return false;
+impl Guess<'_> {
+    // Whether a column may be asked for, into so much room.
+    fn check<F: Field>(&self, room: usize) -> Result<(), OutOfRange>
+        ensures { MatchResult result (λ _. Stands F.ops self.now room) (Refuses F.ops self.now room) }
+    {
+        match Scheme::try_from(self.settings) {
+            Ok(scheme) if scheme.rows == Rows::Cauchy => {}
+            _ => return Err(OutOfRange::Settings),
+        }
+        let m = self.settings.m as usize;
+        if self.numbers.len() != m - 1 || !numbers_differ(self.numbers, self.settings.n) {
+            return Err(OutOfRange::Numbers);
+        }
+        if self.symbols.len() != m - 1 || !are_codes::<F>(self.symbols) {
+            return Err(OutOfRange::Symbols);
+        }
+        if self.place >= m {
+            return Err(OutOfRange::Place);
+        }
+        if self.value >= F::order() {
+            return Err(OutOfRange::Value);
+        }
+        if room != m {
+            return Err(OutOfRange::Room);
+        }
+        Ok(())
     }
-    let m = settings.m as usize;
-    let mut grid = [0u16; 272];
-    let mut factors = [0u16; 16];
-    let mut row = [0u16; 17];
-    find::<F>(
-        settings,
-        numbers,
-        symbols,
-        place,
-        value,
-        column,
-        &mut grid[0..m * (m + 1)],
-        &mut factors[0..m],
-        &mut row[0..m + 1],
-    );
-    true
+
+    // The system that the column solves, row after row.
+    fn lay_system<F: Field>(&self, grid: &mut [u16])
+        requires asked { Stands F.ops self.now self.now.settings.m }
+        requires size { length grid.old ≡ self.now.settings.m * (self.now.settings.m + 1) }
+        ensures { System F.ops self.now.settings self.now.numbers.now self.now.symbols.now self.now.place self.now.value grid.new }
+    {
+        let scheme = Scheme::of(self.settings);
+        let w = self.settings.m as usize + 1;
+        read_place(&mut grid[..w], self.place, self.value);
+        // By index: of what is written through chunks_mut only the length is known.
+        for (r, (number, symbol)) in self.numbers.iter().zip(self.symbols).enumerate() {
+            let from = (r + 1) * w;
+            read_piece::<F>(&mut grid[from..from + w], scheme, *number, *symbol);
+        }
+    }
+
+    // Writes the one column that has the value at the place and gives the symbols of the m - 1 pieces of these numbers,
+    // cut with Cauchy rows. It must have exactly m entries. Where anything is out of range, the column is left as it was.
+    pub fn candidate<F: Field>(&self, column: &mut [u16]) -> Result<(), OutOfRange>
+        ensures asked { OnOk result (Stands F.ops self.now (length column.old)) }
+        ensures refused { OnErr result (Stands F.ops self.now (length column.old) → ⊥) }
+        ensures why { IfErr result (Refuses F.ops self.now (length column.old)) }
+        ensures fits { OnOk result (Answers F.ops self.now column.new) }
+        ensures kept { OnErr result (column.new ≡ column.old) }
+    {
+        self.check::<F>(column.len())?;
+        let m = column.len();
+        let w = m + 1;
+        // Fixed scratch, of which the front is used: the library allocates nothing.
+        let mut grid = [0u16; 272];
+        let mut factors = [0u16; 16];
+        let mut row = [0u16; 17];
+        let rows = &mut grid[..m * w];
+        self.lay_system::<F>(rows);
+        eliminate::<F>(rows, &mut factors[..m], &mut row[..w]);
+        copy_last(column, rows);
+        Ok(())
+    }
 }

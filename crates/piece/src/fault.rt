@@ -1,7 +1,13 @@
+// Why a piece cannot be cut, and why bytes cannot be read. Each refusal has a number, by which documents and other
+// languages know it.
+ghost use Rattle.std.specs.Prelude.{◌≡◌};
+ghost use Rattle.piece.specs.Cutting.{number as cut_number};
+ghost use Rattle.piece.specs.Reading.{number as read_number};
+
 // Why a piece cannot be cut.
 #[derive(Clone, Copy, Debug, PartialEq)]
 pub enum CutFault {
-    // The rows kind is not 0 or 1, or m or n is out of its range.
+    // The rows kind is not 0 or 1, or m or n is out of its range. Spelled out: texts print each number by itself.
     Settings { rows: u8, m: u8, n: u8 },
     // The job is too long.
     Job { length: usize },
@@ -9,6 +15,19 @@ pub enum CutFault {
     Number { number: u8, n: u8 },
     // The buffer is shorter than the piece.
     Room { has: usize, needs: usize },
+}
+
+impl CutFault {
+    pub fn number(&self) -> u8
+        ensures { result ≡ cut_number self.now }
+    {
+        match self {
+            CutFault::Settings { .. } => 1,
+            CutFault::Job { .. } => 2,
+            CutFault::Number { .. } => 3,
+            CutFault::Room { .. } => 4,
+        }
+    }
 }
 
 // Why bytes are no piece of the field that reads them.
@@ -23,7 +42,8 @@ pub enum ReadFault {
         code: u8,
         wants: u8,
     },
-    // The rows kind is above 1, m above n, the number above n, or the length above 4,096.
+    // The rows kind is above 1, m above n, the number above n, or the length above 4,096. Spelled out: texts print each
+    // number by itself.
     Header {
         rows: u8,
         m: u8,
@@ -40,4 +60,18 @@ pub enum ReadFault {
     Value {
         byte: usize,
     },
+}
+
+impl ReadFault {
+    pub fn number(&self) -> u8
+        ensures { result ≡ read_number self.now }
+    {
+        match self {
+            ReadFault::Short { .. } => 6,
+            ReadFault::Field { .. } => 7,
+            ReadFault::Header { .. } => 8,
+            ReadFault::Body { .. } => 9,
+            ReadFault::Value { .. } => 10,
+        }
+    }
 }

@@ -3,51 +3,46 @@ ghost use Rattle.std.specs.Prelude.{◌≡◌, ◌+◌, ◌<◌, ◌≤◌, leng
 ghost use Rattle.piece.specs.Bits.{octets};
 ghost use Rattle.piece.specs.Pieces.{Lawful, header};
 
-use crate::Settings;
+use crate::{Header, Settings};
 
 // The header's bytes.
-fn head(code: u8, settings: Settings, number: u8, len: u16, job_number: u16, stamp: u32) -> [u8; 10]
+fn head(code: u8, h: &Header) -> [u8; 10]
     requires code { code < 4 }
-    requires lawful { Lawful settings }
-    requires least { 1 ≤ number }
-    requires most { number ≤ 32 }
-    requires short { len ≤ 4096 }
-    ensures { result ≡ octets (header code settings number len job_number stamp) }
+    requires lawful { Lawful h.now.settings }
+    requires least { 1 ≤ h.now.number }
+    requires most { h.now.number ≤ 32 }
+    requires short { h.now.length ≤ 4096 }
+    ensures { result ≡ octets (header code h.now.settings h.now.number h.now.length h.now.job h.now.stamp) }
 {
-    let i = number - 1;
+    let Settings { rows, m, n } = h.settings;
+    let i = h.number - 1;
+    let [j0, j1] = h.job.to_be_bytes();
+    let [s0, s1, s2, s3] = h.stamp.to_be_bytes();
+    // as, where it is proved to lose nothing: try_from with unwrap says no more.
     [
-        code * 64 + settings.rows * 16 + (settings.m - 1),
-        (settings.n - 1) * 8 + i / 4,
-        i % 4 * 64 + (len / 256) as u8,
-        (len % 256) as u8,
-        (job_number / 256) as u8,
-        (job_number % 256) as u8,
-        (stamp / 16777216) as u8,
-        (stamp / 65536 % 256) as u8,
-        (stamp / 256 % 256) as u8,
-        (stamp % 256) as u8,
+        code * 64 + rows * 16 + (m - 1),
+        (n - 1) * 8 + i / 4,
+        i % 4 * 64 + (h.length / 256) as u8,
+        (h.length % 256) as u8,
+        j0,
+        j1,
+        s0,
+        s1,
+        s2,
+        s3,
     ]
 }
 
 // Writes the header to the front of a buffer.
-pub fn write_header(
-    out: &mut [u8],
-    code: u8,
-    settings: Settings,
-    number: u8,
-    len: u16,
-    job_number: u16,
-    stamp: u32,
-)
+pub fn write_header(out: &mut [u8], code: u8, h: &Header)
     requires room { 10 ≤ length out.old }
     requires code { code < 4 }
-    requires lawful { Lawful settings }
-    requires least { 1 ≤ number }
-    requires most { number ≤ 32 }
-    requires short { len ≤ 4096 }
-    ensures front { take 10 out.new ≡ octets (header code settings number len job_number stamp) }
+    requires lawful { Lawful h.now.settings }
+    requires least { 1 ≤ h.now.number }
+    requires most { h.now.number ≤ 32 }
+    requires short { h.now.length ≤ 4096 }
+    ensures front { take 10 out.new ≡ octets (header code h.now.settings h.now.number h.now.length h.now.job h.now.stamp) }
     ensures rest { drop 10 out.new ≡ drop 10 out.old }
 {
-    let bytes = head(code, settings, number, len, job_number, stamp);
-    out[0..10].copy_from_slice(&bytes);
+    out[0..10].copy_from_slice(&head(code, h));
 }

@@ -4,7 +4,7 @@ ghost use Rattle.piece.specs.Composed.{ReaderExact, ReadsBackWhole};
 ghost use Rattle.piece.specs.Reading.{Accepts, BadBody, GoodBody, Refuses, code_in, count, header_in, sensible};
 
 use crate::fault::ReadFault;
-use crate::{Header, Settings, bits};
+use crate::{Header, LONGEST, Settings, bits};
 use field::Field;
 
 // A piece as it is read: its header, and its body as a part of the bytes that were given.
@@ -17,15 +17,14 @@ pub struct Piece<'a> {
 fn is_sensible(h: &Header) -> bool
     ensures { result ≡ sensible h.now }
 {
-    h.settings.rows <= 1
+    h.settings.kind().is_ok()
         && h.settings.m <= h.settings.n
         && h.number <= h.settings.n
-        && h.length <= 4096
+        && usize::from(h.length) <= LONGEST
 }
 
 // The fields of ten header bytes: the field code, and the others.
-fn split(head: &[u8]) -> (u8, Header)
-    requires { length head.now ≡ 10 }
+fn split(head: &[u8; 10]) -> (u8, Header)
     ensures code { result.0 ≡ code_in head.now }
     ensures header { result.1 ≡ header_in head.now }
 {
@@ -38,11 +37,8 @@ fn split(head: &[u8]) -> (u8, Header)
         settings,
         number: head[1] % 8 * 4 + head[2] / 64 + 1,
         length: (head[2] % 64) as u16 * 256 + head[3] as u16,
-        job: head[4] as u16 * 256 + head[5] as u16,
-        stamp: head[6] as u32 * 16777216
-            + head[7] as u32 * 65536
-            + head[8] as u32 * 256
-            + head[9] as u32,
+        job: u16::from_be_bytes([head[4], head[5]]),
+        stamp: u32::from_be_bytes([head[6], head[7], head[8], head[9]]),
     };
     (head[0] / 64, header)
 }
@@ -52,8 +48,7 @@ pub fn columns(h: &Header) -> usize
     requires { 1 ≤ h.now.settings.m }
     ensures { result ≡ count h.now }
 {
-    let m = h.settings.m as usize;
-    (h.length as usize + (m - 1)) / m
+    h.settings.columns(h.length as usize)
 }
 
 // Whether the body is one of the header's columns: of the right length, with codes of the field and spare bits 0.
@@ -64,7 +59,7 @@ fn check_body<F: Field>(header: &Header, body: &[u8]) -> Result<(), ReadFault>
     ensures { MatchResult result (λ _. GoodBody F.ops (count header.now) body.now) (λ f. BadBody F.ops (count header.now) body.now f) }
 {
     let count = columns(header);
-    let needs = (count * F::width() as usize + 7) / 8;
+    let needs = bits::bytes_for(F::width(), count);
     let has = body.len();
     if has != needs {
         return Err(ReadFault::Body { has, needs });
@@ -85,6 +80,7 @@ pub fn read<F: Field>(piece: &[u8]) -> Result<Piece<'_>, ReadFault>
             length: piece.len(),
         });
     };
+    // Ten names: std has no split_first_chunk.
     let (code, header) = split(&[*a, *b, *c, *d, *e, *f, *g, *h, *i, *j]);
     let wants = F::code();
     if code != wants {

@@ -13,7 +13,7 @@ mod tests {
     use field::gf256::{Gf256, product};
     use field::mod257::Mod257;
     use piece::Settings;
-    use piece::columns::candidate;
+    use piece::columns::{Guess, OutOfRange};
     use piece::fault::ReadFault;
     use piece::layout::cut::cut;
     use piece::read::read;
@@ -72,31 +72,36 @@ mod tests {
         assert_eq!(rt; rows[3] ^ Gf256::mul(2, rows[7] & 0xff), 1);
         Ok(())
     }
+
     // The symbol of the piece numbered 1 of a column of two places: the entries are the inverses of 2 and 3.
     fn first_symbol(column: [u16; 2]) -> u16 {
         Gf256::mul(0x8d, column[0] & 0xff) ^ Gf256::mul(0xf6, column[1] & 0xff)
     }
 
+    // The symbol 0x57 of the piece numbered 1 of a column of two places, and an element at one of them.
+    fn guess(place: usize, value: u16) -> Guess<'static> {
+        Guess {
+            settings: Settings {
+                rows: 1,
+                m: 2,
+                n: 3,
+            },
+            numbers: &[1],
+            symbols: &[0x57],
+            place,
+            value,
+        }
+    }
+
     // Whatever stands at the first place, a column gives the symbol of the piece that was seen.
     #[test]
     fn column_open(rt: HostRuntime) {
-        let settings = Settings {
-            rows: 1,
-            m: 2,
-            n: 3,
-        };
         let mut column = [0u16; 2];
-        assert_eq!(rt;
-            candidate::<Gf256>(settings, &[1], &[0x57], 0, 0xb6, &mut column),
-            true
-        );
+        assert_eq!(rt; guess(0, 0xb6).candidate::<Gf256>(&mut column), Ok(()));
         assert_eq!(rt; column[0], 0xb6);
         assert_eq!(rt; first_symbol(column), 0x57);
         let mut other = [0u16; 2];
-        assert_eq!(rt;
-            candidate::<Gf256>(settings, &[1], &[0x57], 0, 0, &mut other),
-            true
-        );
+        assert_eq!(rt; guess(0, 0).candidate::<Gf256>(&mut other), Ok(()));
         assert_eq!(rt; other[0], 0);
         assert_eq!(rt; first_symbol(other), 0x57);
     }
@@ -104,15 +109,10 @@ mod tests {
     // A column of two places has no place 2.
     #[test]
     fn place_refused(rt: HostRuntime) {
-        let settings = Settings {
-            rows: 1,
-            m: 2,
-            n: 3,
-        };
         let mut column = [3u16, 5];
         assert_eq!(rt;
-            candidate::<Gf256>(settings, &[1], &[0x57], 2, 0xb6, &mut column),
-            false
+            guess(2, 0xb6).candidate::<Gf256>(&mut column),
+            Err(OutOfRange::Place)
         );
         assert_eq!(rt; column, [3, 5]);
     }

@@ -4,25 +4,24 @@ use std::fmt;
 #[derive(Clone, Copy)]
 pub struct Grouped(pub usize);
 
+// With so many commas at most.
+fn write_grouped<W: fmt::Write>(
+    f: &mut fmt::Formatter<W>,
+    number: usize,
+    commas: u8,
+) -> fmt::Result {
+    if commas == 0 || number < 1000 {
+        return write!(f, "{number}");
+    }
+    write_grouped(f, number / 1000, commas - 1)?;
+    let group = number % 1000;
+    write!(f, ",{group:03}")
+}
+
 // Above 999,999,999,999 the first group is longer.
 impl fmt::Display for Grouped {
     fn fmt<W: fmt::Write>(&self, f: &mut fmt::Formatter<W>) -> fmt::Result {
-        let ones = self.0 % 1000;
-        let thousands = self.0 / 1000;
-        if thousands == 0 {
-            return write!(f, "{ones}");
-        }
-        let millions = thousands / 1000;
-        let thousand = thousands % 1000;
-        if millions == 0 {
-            return write!(f, "{thousand},{ones:03}");
-        }
-        let billions = millions / 1000;
-        let million = millions % 1000;
-        if billions == 0 {
-            return write!(f, "{million},{thousand:03},{ones:03}");
-        }
-        write!(f, "{billions},{million:03},{thousand:03},{ones:03}")
+        write_grouped(f, self.0, 3)
     }
 }
 

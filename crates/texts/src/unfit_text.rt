@@ -7,14 +7,12 @@ use work::unfit::{Common, Unfit};
 #[derive(Clone, Copy)]
 pub struct Misfit<'a>(pub Unfit, pub &'a [String]);
 
+// No index is out of range: Unfit names pieces that were given.
 fn name_at(names: &[String], at: usize) -> &str {
-    if at < names.len() {
-        names[at].as_str()
-    } else {
-        ""
-    }
+    names.get(at).map_or("", |name| name.as_str())
 }
 
+// A text and no Display: the type is of crate work, which holds no words.
 fn common(what: Common) -> &'static str {
     match what {
         Common::Field => "field",

@@ -1,5 +1,6 @@
 pub mod Numeral
 pub mod Named
+pub mod Menus
 pub mod Options
 pub mod Scans
 pub mod Requests

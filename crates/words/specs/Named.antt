@@ -3,12 +3,12 @@ use Rattle.std.specs.Prelude.{ℕ, List, codes}
 use Rattle.field.specs.Laws.{Ops}
 use Rattle.field.specs.Gf256.{gf256}
 use Rattle.field.specs.Mod257.{mod257}
+use Rattle.piece.specs.declared.kind.Rows.{Rows}
+use Rattle.piece.specs.declared.kind.Rows.TheVariants.{Vandermonde, Cauchy}
 use Rattle.words.specs.declared.field_name.FieldName.{FieldName}
 use Rattle.words.specs.declared.field_name.FieldName.TheVariants.{Gf256, Mod257}
 use Rattle.words.specs.declared.help.Verb.{Verb}
 use Rattle.words.specs.declared.help.Verb.TheVariants.{Fields, Times, Inverse, Cut, Show, Candidates, Help}
-use Rattle.words.specs.declared.rows_name.RowsName.{RowsName}
-use Rattle.words.specs.declared.rows_name.RowsName.TheVariants.{Vandermonde, Cauchy}
 use Rattle.words.specs.declared.setting.Setting.{Setting}
 use Rattle.words.specs.declared.setting.Setting.TheVariants as setting
 
@@ -31,14 +31,10 @@ verb_word_of Show = codes "show"
 verb_word_of Candidates = codes "candidates"
 verb_word_of Help = codes "help"
 
-abbrev pub rows_word_of : RowsName → List ℕ
+-- the word by which a user names a kind of rows
+abbrev pub rows_word_of : Rows → List ℕ
 rows_word_of Vandermonde = codes "vandermonde"
 rows_word_of Cauchy = codes "cauchy"
-
--- the number of a kind of rows in a piece
-abbrev pub rows_code_of : RowsName → ℕ
-rows_code_of Vandermonde = 0
-rows_code_of Cauchy = 1
 
 -- the word of an option
 abbrev pub setting_word_of : Setting → List ℕ

@@ -1,12 +1,13 @@
 -- What the options of cutting mean. Assumes nothing.
 use Rattle.std.specs.Prelude.{◌≡◌, ℕ, List, Ok}
 use Rattle.piece.specs.declared.Settings.{Settings}
+use Rattle.piece.specs.declared.kind.Rows.TheVariants.{Cauchy}
+use Rattle.piece.specs.Rows.{number_of}
 use Rattle.words.specs.declared.field_name.FieldName.TheVariants.{Gf256}
-use Rattle.words.specs.declared.rows_name.RowsName.TheVariants.{Cauchy}
 use Rattle.words.specs.declared.setting.Setting.{Setting}
 use Rattle.words.specs.declared.setting.Setting.TheVariants.{Field, Rows, Need, Of, Job, Stamp, Column, Place, Value}
 use Rattle.words.specs.declared.options.CutOptions.{CutOptions}
-use Rattle.words.specs.Named.{word_of, rows_word_of, rows_code_of}
+use Rattle.words.specs.Named.{word_of, rows_word_of}
 use Rattle.words.specs.Numeral.{Reading, radix_of, digits_of}
 
 -- the text w writes the number v, decimal or hexadecimal, and v is at most top
@@ -31,4 +32,4 @@ Sets Value w o p = ⊥
 
 -- the settings that a job is cut with
 abbrev pub settings_of : CutOptions → Settings
-settings_of o = record { rows = rows_code_of o.rows; m = o.need; n = o.total }
+settings_of o = record { rows = number_of o.rows; m = o.need; n = o.total }

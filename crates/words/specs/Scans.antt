@@ -1,51 +1,63 @@
--- What each word of cut means, where options and names stand in any order. Assumes nothing.
-use Rattle.std.specs.Prelude.{◌≡◌, ℕ, Bool, true, false, ◌&&◌, ◌⊎◌, List, ◌∷◌, ◌++◌, length, codes, ◌==◌, nat_lt, slice_index}
+-- What the words after a verb say, where options and names stand in any order. Assumes nothing.
+use Rattle.std.specs.Prelude.{◌≡◌, ℕ, zero, suc, Bool, true, false, ◌&&◌, ◌⊎◌, List, [], ◌∷◌, ◌++◌, length, Some, None, Option, codes, string_bytes, String, ◌≢◌, ◌==◌, nat_lt, slice_index, slice_index_or}
 use Rattle.words.specs.declared.setting.Setting.{Setting}
 use Rattle.words.specs.declared.scan.Next.{Next}
 use Rattle.words.specs.declared.scan.Next.TheVariants as next
-use Rattle.words.specs.declared.scan.Names.{Names}
-use Rattle.words.specs.declared.scan.Names.TheVariants as names
 use Rattle.words.specs.declared.scan.Scan.{Scan}
 use Rattle.words.specs.Named.{setting_word_of}
-use Rattle.words.specs.Options.{Sets, given}
 
 -- it begins with a dash and is longer: a dash alone is a name
 abbrev pub dashed : List ℕ → Bool
 dashed w = nat_lt 1 (length w) && slice_index w 0 == 45
 
--- before the first word
-abbrev pub start : Scan
-start = record { options = given; next = next.Word; names = names.Neither }
+-- before the first word, where the options are as if none were given
+abbrev pub start : {O : Type 0} → O → Scan O
+start o = record { options = o; next = next.Word }
 
--- w is the value of an option
-abbrev pub Takes : Setting → List ℕ → Scan → Scan → Type 0
-Takes x w s t = Sets x w s.options t.options × (t.next ≡ next.Word) × (t.names ≡ s.names)
+-- what is so far, and the names, after a word: a name where nothing else is heard
+abbrev pub After : {O : Type 0} → Option (Scan O) → List ℕ → Scan O → List (List ℕ) → Scan O → List (List ℕ) → Type 0
+After None w s ms t ns = (t ≡ s) × (ns ≡ ms ++ (w ∷ []))
+After (Some u) w s ms t ns = (t ≡ u) × (ns ≡ ms)
 
--- the word at this place is a name, the first or the second
-abbrev pub Follows : ℕ → Names → Names → Type 0
-Follows at names.Neither ns = ns ≡ names.File at
-Follows at (names.File f) ns = ns ≡ names.Both f at
-Follows at (names.Both f d) ns = ⊥
+-- an option with a text sets what `Sets` says
+module _ {O : Type 0} (Sets : Setting → List ℕ → O → O → Type 0) where
+  -- w is the value of an option
+  abbrev pub Takes : Setting → List ℕ → Scan O → Scan O → Type 0
+  Takes x w s t = Sets x w s.options t.options × (t.next ≡ next.Word)
 
-abbrev pub Places : ℕ → Scan → Scan → Type 0
-Places at s t = Follows at s.names t.names × (t.options ≡ s.options) × (t.next ≡ s.next)
+  -- a dashed word ends the options, names an option whose value comes next, or has its value behind an equals sign (61)
+  abbrev pub Opens : List ℕ → Scan O → Scan O → Type 0
+  Opens w s t =
+      ((w ≡ codes "--") × (t ≡ record { options = s.options; next = next.Name }))
+      ⊎ (((x : Setting) × (w ≡ setting_word_of x) × (t ≡ record { options = s.options; next = next.Value x }))
+      ⊎ ((x : Setting) × (v : List ℕ) × (w ≡ setting_word_of x ++ (61 ∷ v)) × Takes x v s t))
 
--- a dashed word ends the options, names an option whose value comes next, or has its value behind an equals sign (61)
-abbrev pub Opens : List ℕ → Scan → Scan → Type 0
-Opens w s t =
-    ((w ≡ codes "--") × (t ≡ record { options = s.options; next = next.Name; names = s.names }))
-    ⊎ (((x : Setting) × (w ≡ setting_word_of x) × (t ≡ record { options = s.options; next = next.Value x; names = s.names }))
-    ⊎ ((x : Setting) × (v : List ℕ) × (w ≡ setting_word_of x ++ (61 ∷ v)) × Takes x v s t))
+  abbrev pub Free : Bool → List ℕ → Scan O → Option (Scan O) → Type 0
+  Free true w s None = ⊥
+  Free true w s (Some t) = Opens w s t
+  Free false w s h = h ≡ None
 
-abbrev pub Free : Bool → List ℕ → ℕ → Scan → Scan → Type 0
-Free true w at s t = Opens w s t
-Free false w at s t = Places at s t
+  abbrev pub Listens : Next → List ℕ → Scan O → Option (Scan O) → Type 0
+  Listens next.Word w s h = Free (dashed w) w s h
+  Listens (next.Value x) w s None = ⊥
+  Listens (next.Value x) w s (Some t) = Takes x w s t
+  Listens next.Name w s h = h ≡ None
 
-abbrev pub Read : Next → List ℕ → ℕ → Scan → Scan → Type 0
-Read next.Word w at s t = Free (dashed w) w at s t
-Read (next.Value x) w at s t = Takes x w s t
-Read next.Name w at s t = Places at s t
+  -- what the word w says of the options after the words that led to s: nothing where it is a name
+  abbrev pub Hears : List ℕ → Scan O → Option (Scan O) → Type 0
+  Hears w s h = Listens s.next w s h
 
--- the word w at this place takes the reading from s to t
-abbrev pub Step : List ℕ → ℕ → Scan → Scan → Type 0
-Step w at s t = Read s.next w at s t
+module _ {O : Type 0} (unset : O) (Sets : Setting → List ℕ → O → O → Type 0) {Z : Type 0} (ws : List (String Z)) where
+  -- the first k words take the reading from its start to t, each of them by one step, and these of them are names
+  unfoldable pub Goes : ℕ → Scan O → List (List ℕ) → Type 0
+  Goes zero t ns = (t ≡ start unset) × (ns ≡ [])
+  Goes (suc k) t ns =
+      (s : Scan O) × (ms : List (List ℕ)) × (w : String Z) × (h : Option (Scan O))
+      × Goes k s ms × (w ≡ slice_index_or ws k w) × Hears Sets (string_bytes w) s h × After h (string_bytes w) s ms t ns
+
+  -- all words are read, no option is left without its value, and what they say are these options and these names
+  pub record Says (o : O) (ns : List (List ℕ)) : Type 0 where
+    pub last : Scan O
+    pub goes : Goes (length ws) last ns
+    pub whole : (x : Setting) → last.next ≢ next.Value x
+    pub options : o ≡ last.options

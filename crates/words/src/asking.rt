@@ -1,16 +1,17 @@
-// Reads the words of `candidates`: options and names in any order.
+// What the options of `candidates` say.
 ghost use Rattle.std.specs.Prelude.{◌≡◌, IfOk};
-ghost use Rattle.words.specs.Askings.{Hears, Heeds, Turns, Wants, opening};
+ghost use Rattle.words.specs.Askings.{Wants, unasked};
 
 use crate::help::Verb;
+use crate::named::Named;
 use crate::option_problem::OptionProblem;
 use crate::options::number_in;
-use crate::scan::{Next, is_option, setting_in};
+use crate::scan::Options;
 use crate::setting::Setting;
-use crate::word_problem::WordProblem;
+use crate::word_problem::{Limit, WordProblem};
 use std::alloc::Global;
 
-// What the options say, where they are given.
+// The values of those that are given.
 #[derive(Clone, Copy)]
 pub struct Wanted {
     pub column: Option<u16>,
@@ -18,42 +19,39 @@ pub struct Wanted {
     pub value: Option<u8>,
 }
 
-// What the words say so far, but for the names.
-#[derive(Clone, Copy)]
-pub struct Asking {
-    pub wanted: Wanted,
-    pub next: Next,
-}
+impl Options for Wanted {
+    ghost unset = { unasked };
 
-// What a word is: a name, or a part of the options.
-#[derive(Clone, Copy)]
-pub enum Heard {
-    Name,
-    Part(Asking),
-}
+    ghost sets = { Wants };
 
-impl Wanted {
-    // The same with one option as a text writes it.
-    fn with(self, heap: Global, setting: Setting, value: &str) -> Result<Wanted, WordProblem>
-        ensures wants { IfOk result (λ p. Wants setting value.now self p) }
-    {
+    const VERB: Verb = Verb::Candidates;
+
+    fn given() -> Wanted {
+        Wanted {
+            column: None,
+            place: None,
+            value: None,
+        }
+    }
+
+    fn with(self, heap: Global, setting: Setting, value: &str) -> Result<Wanted, WordProblem> {
         match setting {
             Setting::Column => {
-                let column = number_in(heap, setting, value, 65535)? as u16;
+                let column = number_in(heap, value, 65535, Limit::ValueOf(setting))? as u16;
                 Ok(Wanted {
                     column: Some(column),
                     ..self
                 })
             }
             Setting::Place => {
-                let place = number_in(heap, setting, value, 255)? as u8;
+                let place = number_in(heap, value, 255, Limit::ValueOf(setting))? as u8;
                 Ok(Wanted {
                     place: Some(place),
                     ..self
                 })
             }
             Setting::Value => {
-                let byte = number_in(heap, setting, value, 255)? as u8;
+                let byte = number_in(heap, value, 255, Limit::ValueOf(setting))? as u8;
                 Ok(Wanted {
                     value: Some(byte),
                     ..self
@@ -64,77 +62,10 @@ impl Wanted {
             | Setting::Need
             | Setting::Of
             | Setting::Job
-            | Setting::Stamp => Err(WordProblem::Options(OptionProblem::Unknown(
+            | Setting::Stamp => Err(OptionProblem::Unknown(
                 String::from_str(heap, setting.word())?,
-                Verb::Candidates,
-            ))),
-        }
-    }
-}
-
-impl Asking {
-    pub fn start() -> Asking
-        ensures value { result ≡ opening }
-    {
-        Asking {
-            wanted: Wanted {
-                column: None,
-                place: None,
-                value: None,
-            },
-            next: Next::Word,
-        }
-    }
-
-    fn set(self, heap: Global, setting: Setting, value: &str) -> Result<Heard, WordProblem>
-        ensures heeds { IfOk result (λ h. Heeds setting value.now self h) }
-    {
-        let wanted = self.wanted.with(heap, setting, value)?;
-        Ok(Heard::Part(Asking {
-            wanted,
-            next: Next::Word,
-        }))
-    }
-
-    // A word that begins with a dash.
-    fn option(self, heap: Global, word: &str) -> Result<Heard, WordProblem>
-        ensures turns { IfOk result (λ h. Turns word.now self h) }
-    {
-        if word == "--" {
-            return Ok(Heard::Part(Asking {
-                next: Next::Name,
-                ..self
-            }));
-        }
-        match word.split_once('=') {
-            Some((name, value)) => {
-                let setting = setting_in(heap, Verb::Candidates, name)?;
-                self.set(heap, setting, value)
-            }
-            None => {
-                let setting = setting_in(heap, Verb::Candidates, word)?;
-                Ok(Heard::Part(Asking {
-                    next: Next::Value(setting),
-                    ..self
-                }))
-            }
-        }
-    }
-
-    // What one more word is.
-    pub fn hear(self, heap: Global, word: &str) -> Result<Heard, WordProblem>
-        ensures hears { IfOk result (λ h. Hears word.now self h) }
-    {
-        match self.next {
-            Next::Value(setting) => self.set(heap, setting, word),
-            Next::Name => Ok(Heard::Name),
-            Next::Word => {
-                if is_option(word.as_bytes()) {
-                    self.option(heap, word)
-                } else {
-                    Ok(Heard::Name)
-                }
-            }
+                Wanted::VERB,
+            ).into()),
         }
     }
 }

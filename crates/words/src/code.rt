@@ -1,6 +1,6 @@
 // Reads the numbers that a user writes.
-ghost use Rattle.std.specs.Prelude.{◌≡◌, ◌<◌, ◌≤◌, true, length, MatchOption};
-ghost use Rattle.words.specs.Numeral.{worth, Reading, marked, radix_of, digits_of};
+ghost use Rattle.std.specs.Prelude.{◌≡◌, ◌<◌, ◌≤◌, MatchOption};
+ghost use Rattle.words.specs.Numeral.{worth, Reading, radix_of, digits_of};
 
 // Why a text is no number that is taken.
 #[derive(Clone, Copy)]
@@ -9,6 +9,7 @@ pub enum Refusal {
     TooLarge,
 }
 
+// Not to_digit: its contract speaks of characters, and `worth` of bytes.
 // The digit that a character is in a base up to 16, in either case of its letters.
 fn digit(c: u8, base: u64) -> Option<u64>
     requires { base ≤ 16 }
@@ -24,6 +25,7 @@ fn digit(c: u8, base: u64) -> Option<u64>
     if worth < base { Some(worth) } else { None }
 }
 
+// Not from_str_radix: it takes a plus sign, and may call a text too large before it finds a letter in it.
 // The number that digits write, if it is at most `most`. A text that is no number is refused as such however long it is.
 fn number(digits: &[u8], base: u64, most: u32) -> Result<u32, Refusal>
     requires least { 1 ≤ base }
@@ -45,30 +47,16 @@ fn number(digits: &[u8], base: u64, most: u32) -> Result<u32, Refusal>
     if value == limit {
         return Err(Refusal::TooLarge);
     }
+    // It is at most `most`, so no try_from could fail.
     Ok(value as u32)
-}
-
-// Whether a text begins with 0x or 0X.
-fn is_marked(text: &[u8]) -> bool
-    ensures value { result ≡ marked text.now }
-    ensures long { result ≡ true → 2 ≤ length text.now }
-{
-    if text.len() < 2 {
-        return false;
-    }
-    if text[0] != b'0' {
-        return false;
-    }
-    text[1] == b'x' || text[1] == b'X'
 }
 
 // The number that a text writes in decimal, or in hexadecimal after 0x or 0X, if it is at most `most`.
 pub fn read(text: &[u8], most: u32) -> Result<u32, Refusal>
     ensures reading { Reading (radix_of text.now) most (digits_of text.now) result }
 {
-    if is_marked(text) {
-        number(&text[2..], 16, most)
-    } else {
-        number(text, 10, most)
+    match text {
+        [b'0', b'x' | b'X', digits @ ..] => number(digits, 16, most),
+        _ => number(text, 10, most),
     }
 }

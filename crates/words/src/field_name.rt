@@ -1,7 +1,10 @@
 // The fields, as a user names them.
-ghost use Rattle.std.specs.Prelude.{◌≡◌, ◌+◌, ◌<◌, MatchOption, ◌≢◌};
+ghost use Rattle.std.specs.Prelude.{◌≡◌, ◌+◌, ◌<◌, [], ◌∷◌, MatchOption, refl};
+ghost use Rattle.std.proofs.Common.{lit<};
+ghost use Rattle.words.specs.declared.field_name.FieldName.TheVariants.{Gf256, Mod257};
 ghost use Rattle.words.specs.Named.{ops_of, word_of};
 
+use crate::named::Named;
 use field::Field;
 use field::gf256::Gf256;
 use field::mod257::Mod257;
@@ -12,28 +15,27 @@ pub enum FieldName {
     Mod257,
 }
 
-impl FieldName {
-    pub fn named(word: &str) -> Option<FieldName>
-        ensures cases { MatchOption result ((x : FieldName) → word.now ≢ word_of x) (λ x. word.now ≡ word_of x) }
-    {
-        if word == "gf256" {
-            Some(FieldName::Gf256)
-        } else if word == "mod257" {
-            Some(FieldName::Mod257)
-        } else {
-            None
-        }
+impl Named for FieldName {
+    ghost text = { word_of };
+
+    ghost all = { Gf256 ∷ Mod257 ∷ [] };
+
+    fn all() -> &'static [FieldName] {
+        &[FieldName::Gf256, FieldName::Mod257]
     }
 
-    pub fn word(self) -> &'static str
-        ensures value { result.now ≡ word_of self }
-    {
+    fn word(self) -> &'static str {
         match self {
             FieldName::Gf256 => "gf256",
             FieldName::Mod257 => "mod257",
         }
     }
 
+    ghost whole = { elim [ Gf256 ↦ (0, lit< tt, refl) | Mod257 ↦ (1, lit< tt, refl) ] };
+}
+
+// A match stands in these: a closure takes no type, and a visitor would be a struct and an impl for one call alone.
+impl FieldName {
     pub fn title(self) -> &'static str {
         match self {
             FieldName::Gf256 => "GF(2^8)",

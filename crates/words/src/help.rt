@@ -1,6 +1,12 @@
-// The verbs, and what the program says of each.
-ghost use Rattle.std.specs.Prelude.{◌≡◌, MatchOption, ◌≢◌};
+// The verbs, and what a program says of them.
+ghost use Rattle.std.specs.Prelude.{[], ◌∷◌, refl};
+ghost use Rattle.std.proofs.Common.{lit<};
+ghost use Rattle.words.specs.declared.help.Verb.TheVariants.{Candidates, Cut, Fields, Help, Inverse, Show, Times};
 ghost use Rattle.words.specs.Named.{verb_word_of};
+
+use crate::menu::Menu;
+use crate::named::Named;
+use std::fmt;
 
 #[derive(Clone, Copy)]
 pub enum Verb {
@@ -13,32 +19,24 @@ pub enum Verb {
     Help,
 }
 
-impl Verb {
-    pub fn named(word: &str) -> Option<Verb>
-        ensures cases { MatchOption result ((x : Verb) → word.now ≢ verb_word_of x) (λ x. word.now ≡ verb_word_of x) }
-    {
-        if word == "fields" {
-            Some(Verb::Fields)
-        } else if word == "times" {
-            Some(Verb::Times)
-        } else if word == "inverse" {
-            Some(Verb::Inverse)
-        } else if word == "cut" {
-            Some(Verb::Cut)
-        } else if word == "show" {
-            Some(Verb::Show)
-        } else if word == "candidates" {
-            Some(Verb::Candidates)
-        } else if word == "help" {
-            Some(Verb::Help)
-        } else {
-            None
-        }
+impl Named for Verb {
+    ghost text = { verb_word_of };
+
+    ghost all = { Fields ∷ Times ∷ Inverse ∷ Cut ∷ Show ∷ Candidates ∷ Help ∷ [] };
+
+    fn all() -> &'static [Verb] {
+        &[
+            Verb::Fields,
+            Verb::Times,
+            Verb::Inverse,
+            Verb::Cut,
+            Verb::Show,
+            Verb::Candidates,
+            Verb::Help,
+        ]
     }
 
-    pub fn word(self) -> &'static str
-        ensures value { result.now ≡ verb_word_of self }
-    {
+    fn word(self) -> &'static str {
         match self {
             Verb::Fields => "fields",
             Verb::Times => "times",
@@ -50,6 +48,10 @@ impl Verb {
         }
     }
 
+    ghost whole = { elim [ Fields ↦ (0, lit< tt, refl) | Times ↦ (1, lit< tt, refl) | Inverse ↦ (2, lit< tt, refl) | Cut ↦ (3, lit< tt, refl) | Show ↦ (4, lit< tt, refl) | Candidates ↦ (5, lit< tt, refl) | Help ↦ (6, lit< tt, refl) ] };
+}
+
+impl Verb {
     // Its options.
     pub fn options(self) -> &'static str {
         match self {
@@ -71,31 +73,54 @@ impl Verb {
             Verb::Help => "jobvault help [VERB]",
         }
     }
+}
 
-    // What the verb does, with examples.
-    pub fn about(self) -> &'static str {
-        match self {
-            Verb::Fields => FIELDS,
-            Verb::Times => TIMES,
-            Verb::Inverse => INVERSE,
-            Verb::Cut => CUT,
-            Verb::Show => SHOW,
-            Verb::Candidates => CANDIDATES,
-            Verb::Help => HELP,
+// What a program with this menu says of itself.
+#[derive(Clone, Copy)]
+pub struct Overview(pub Menu);
+
+impl fmt::Display for Overview {
+    fn fmt<W: fmt::Write>(&self, f: &mut fmt::Formatter<W>) -> fmt::Result {
+        let (more, examples) = match self.0 {
+            Menu::Cutting => ("", FIELDS_EXAMPLE),
+            Menu::Whole => (PIECES_USAGE, PIECES_EXAMPLES),
+        };
+        write!(f, "{USAGE}{more}{HELP_AND_EXAMPLES}{examples}")
+    }
+}
+
+// What a verb does, with examples, in a program with this menu.
+#[derive(Clone, Copy)]
+pub struct About(pub Menu, pub Verb);
+
+impl fmt::Display for About {
+    fn fmt<W: fmt::Write>(&self, f: &mut fmt::Formatter<W>) -> fmt::Result {
+        match self.1 {
+            Verb::Fields => write!(f, "{FIELDS}"),
+            Verb::Times => write!(f, "{TIMES}"),
+            Verb::Inverse => write!(f, "{INVERSE}"),
+            Verb::Cut => write!(f, "{CUT}"),
+            Verb::Show => write!(f, "{SHOW}"),
+            Verb::Candidates => write!(f, "{CANDIDATES}"),
+            Verb::Help => write!(f, "{HELP}{} or help{HELP_END}", self.0.verbs()),
         }
     }
 }
 
-pub const OVERVIEW: &str = "jobvault: a job cut into pieces, of which enough bring it back
+const USAGE: &str = "jobvault: a job cut into pieces, of which enough bring it back
 
 usage:
   jobvault fields              compare both fields with a second implementation
   jobvault times FIELD A B     multiply two codes
   jobvault inverse FIELD A     the inverse of a code
   jobvault cut FILE DIR        cut a file into pieces
-  jobvault show PIECE ..       what the headers of pieces say
+";
+
+const PIECES_USAGE: &str = "  jobvault show PIECE ..       what the headers of pieces say
   jobvault candidates ..       what m - 1 pieces leave open of a column
-  jobvault help [VERB]         this text, or more on a verb
+";
+
+const HELP_AND_EXAMPLES: &str = "  jobvault help [VERB]         this text, or more on a verb
 
 FIELD is gf256 or mod257; A and B are codes, decimal (87) or hexadecimal (0x57).
 
@@ -103,7 +128,12 @@ examples:
   jobvault times gf256 0x57 0x83
   jobvault inverse mod257 2
   jobvault cut plan.txt pieces
-  jobvault show pieces/plan.txt.01
+";
+
+const FIELDS_EXAMPLE: &str = "  jobvault help fields
+";
+
+const PIECES_EXAMPLES: &str = "  jobvault show pieces/plan.txt.01
   jobvault help candidates
 ";
 
@@ -194,7 +224,9 @@ examples:
 
 const HELP: &str = "usage: jobvault help [VERB]
 
-Lists the verbs, or says more on one: fields, times, inverse, cut, show, candidates or help. The same as --help and -h.
+Lists the verbs, or says more on one: ";
+
+const HELP_END: &str = ". The same as --help and -h.
 
 examples:
   jobvault help

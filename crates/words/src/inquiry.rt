@@ -2,10 +2,10 @@
 ghost use Rattle.std.specs.Prelude.{◌≡◌, IfOk};
 ghost use Rattle.words.specs.Inquiries.{Inquires};
 
-use crate::asking::{Asking, Heard};
+use crate::asking::Wanted;
 use crate::help::Verb;
 use crate::option_problem::OptionProblem;
-use crate::scan::Next;
+use crate::scan;
 use crate::setting::Setting;
 use crate::word_problem::WordProblem;
 use std::alloc::Global;
@@ -24,31 +24,23 @@ pub struct Inquiry {
 pub fn read(heap: Global, words: &[String]) -> Result<Inquiry, WordProblem>
     ensures asked { IfOk result (Inquires words.now) }
 {
-    let mut asking = Asking::start();
-    let mut pieces = Vec::new(heap);
-    for at in 0..words.len() {
-        if let Heard::Part(more) = asking.hear(heap, words[at].as_str())? {
-            asking = more;
-            continue;
-        }
-        pieces.push(words[at].clone()?)?;
-    }
-    if let Next::Value(setting) = asking.next {
-        return Err(WordProblem::Options(OptionProblem::NoValue(setting)));
-    }
-    if pieces.is_empty() {
+    // All words may be names.
+    let said = scan::read::<Wanted>(heap, words, words.len())?;
+    if said.names.is_empty() {
         return Err(WordProblem::WordCount(Verb::Candidates));
     }
-    let Some(column) = asking.wanted.column else {
-        return Err(WordProblem::Options(OptionProblem::Missing(Setting::Column)));
-    };
-    let Some(place) = asking.wanted.place else {
-        return Err(WordProblem::Options(OptionProblem::Missing(Setting::Place)));
-    };
+    let column = said
+        .options
+        .column
+        .ok_or(OptionProblem::Missing(Setting::Column))?;
+    let place = said
+        .options
+        .place
+        .ok_or(OptionProblem::Missing(Setting::Place))?;
     Ok(Inquiry {
         column,
         place,
-        value: asking.wanted.value,
-        pieces,
+        value: said.options.value,
+        pieces: said.names,
     })
 }

@@ -1,5 +1,6 @@
 // Why the options of a verb cannot be read.
 use crate::help::Verb;
+use crate::named::Named;
 use crate::setting::Setting;
 use std::fmt;
 
@@ -9,7 +10,6 @@ pub enum OptionProblem {
     NoValue(Setting),
     Missing(Setting),
     NotRows(String),
-    TooLarge(String, Setting),
 }
 
 impl fmt::Display for OptionProblem {
@@ -40,12 +40,6 @@ impl fmt::Display for OptionProblem {
                     f,
                     "'{word}' is no kind of rows: the kinds are cauchy and vandermonde"
                 )
-            }
-            OptionProblem::TooLarge(word, setting) => {
-                let word = word.as_str().escape_debug();
-                let name = setting.word();
-                let takes = setting.takes();
-                write!(f, "'{word}' is too large for {name}: it takes {takes}")
             }
         }
     }

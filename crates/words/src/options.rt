@@ -7,67 +7,67 @@ use crate::code;
 use crate::code::Refusal;
 use crate::field_name::FieldName;
 use crate::help::Verb;
+use crate::named::Named;
 use crate::option_problem::OptionProblem;
-use crate::rows_name::RowsName;
+use crate::scan::Options;
 use crate::setting::Setting;
-use crate::word_problem::WordProblem;
+use crate::word_problem::{Limit, WordProblem};
 use piece::Settings;
+use piece::kind::Rows;
 use std::alloc::Global;
 
 #[derive(Clone, Copy)]
 pub struct CutOptions {
     pub field: FieldName,
-    pub rows: RowsName,
+    pub rows: Rows,
     pub need: u8,
     pub total: u8,
     pub job: u16,
     pub stamp: u32,
 }
 
-fn field_in(heap: Global, value: &str) -> Result<FieldName, WordProblem>
+pub(crate) fn field_in(heap: Global, value: &str) -> Result<FieldName, WordProblem>
     ensures named { IfOk result (λ x. value.now ≡ word_of x) }
 {
-    match FieldName::named(value) {
-        Some(field) => Ok(field),
-        None => Err(WordProblem::NotAField(String::from_str(heap, value)?)),
-    }
+    let field = FieldName::named(value);
+    field.try_ok_or_else(|| Ok(WordProblem::NotAField(String::from_str(heap, value)?)))
 }
 
-fn rows_in(heap: Global, value: &str) -> Result<RowsName, WordProblem>
+fn rows_in(heap: Global, value: &str) -> Result<Rows, WordProblem>
     ensures named { IfOk result (λ x. value.now ≡ rows_word_of x) }
 {
-    match RowsName::named(value) {
-        Some(rows) => Ok(rows),
-        None => Err(WordProblem::Options(OptionProblem::NotRows(String::from_str(heap, value)?))),
-    }
+    let rows = Rows::named(value);
+    rows.try_ok_or_else(|| Ok(OptionProblem::NotRows(String::from_str(heap, value)?).into()))
 }
 
+// Where `most` fits a narrower type, the result may be narrowed to it by `as`. `most` stands beside `limit`, since two of
+// the settings that a limit may name take no number.
 pub(crate) fn number_in(
     heap: Global,
-    setting: Setting,
     value: &str,
     most: u32,
+    limit: Limit,
 ) -> Result<u32, WordProblem>
     ensures number { IfOk result (λ x. Number most value.now x) }
 {
     match code::read(value.as_bytes(), most) {
         Ok(number) => Ok(number),
         Err(Refusal::NotANumber) => Err(WordProblem::NotANumber(String::from_str(heap, value)?)),
-        Err(Refusal::TooLarge) => Err(WordProblem::Options(OptionProblem::TooLarge(
-            String::from_str(heap, value)?,
-            setting,
-        ))),
+        Err(Refusal::TooLarge) => Err(WordProblem::TooLarge(String::from_str(heap, value)?, limit)),
     }
 }
 
-impl CutOptions {
-    // What holds where no option says otherwise.
-    pub fn given() -> CutOptions
-        ensures value { result ≡ given }
-    {
+impl Options for CutOptions {
+    ghost unset = { given };
+
+    ghost sets = { Sets };
+
+    const VERB: Verb = Verb::Cut;
+
+    fn given() -> CutOptions {
         CutOptions {
             field: FieldName::Gf256,
-            rows: RowsName::Cauchy,
+            rows: Rows::Cauchy,
             need: 10,
             total: 14,
             job: 1,
@@ -75,15 +75,8 @@ impl CutOptions {
         }
     }
 
-    // The same with one setting as a text writes it. Whether need and total are in range is left to the cutting.
-    pub fn with(
-        self,
-        heap: Global,
-        setting: Setting,
-        value: &str,
-    ) -> Result<CutOptions, WordProblem>
-        ensures sets { IfOk result (λ p. Sets setting value.now self p) }
-    {
+    // Whether need and total are in range is left to the cutting.
+    fn with(self, heap: Global, setting: Setting, value: &str) -> Result<CutOptions, WordProblem> {
         match setting {
             Setting::Field => {
                 let field = field_in(heap, value)?;
@@ -94,35 +87,35 @@ impl CutOptions {
                 Ok(CutOptions { rows, ..self })
             }
             Setting::Need => {
-                let need = number_in(heap, setting, value, 255)? as u8;
+                let need = number_in(heap, value, 255, Limit::ValueOf(setting))? as u8;
                 Ok(CutOptions { need, ..self })
             }
             Setting::Of => {
-                let total = number_in(heap, setting, value, 255)? as u8;
+                let total = number_in(heap, value, 255, Limit::ValueOf(setting))? as u8;
                 Ok(CutOptions { total, ..self })
             }
             Setting::Job => {
-                let job = number_in(heap, setting, value, 65535)? as u16;
+                let job = number_in(heap, value, 65535, Limit::ValueOf(setting))? as u16;
                 Ok(CutOptions { job, ..self })
             }
             Setting::Stamp => {
-                let stamp = number_in(heap, setting, value, 4294967295)?;
+                let stamp = number_in(heap, value, 4294967295, Limit::ValueOf(setting))?;
                 Ok(CutOptions { stamp, ..self })
             }
-            Setting::Column | Setting::Place | Setting::Value => {
-                Err(WordProblem::Options(OptionProblem::Unknown(
-                    String::from_str(heap, setting.word())?,
-                    Verb::Cut,
-                )))
-            }
+            Setting::Column | Setting::Place | Setting::Value => Err(OptionProblem::Unknown(
+                String::from_str(heap, setting.word())?,
+                CutOptions::VERB,
+            ).into()),
         }
     }
+}
 
+impl CutOptions {
     pub fn settings(&self) -> Settings
         ensures value { result ≡ settings_of self.now }
     {
         Settings {
-            rows: self.rows.code(),
+            rows: self.rows.into(),
             m: self.need,
             n: self.total,
         }

@@ -3,9 +3,8 @@ ghost use Rattle.std.specs.Prelude.{◌≡◌, IfOk};
 ghost use Rattle.words.specs.Requests.{Asked};
 
 use crate::help::Verb;
-use crate::option_problem::OptionProblem;
 use crate::options::CutOptions;
-use crate::scan::{Names, Next, Scan};
+use crate::scan;
 use crate::word_problem::WordProblem;
 use std::alloc::Global;
 
@@ -20,21 +19,13 @@ pub struct Request {
 pub fn read(heap: Global, words: &[String]) -> Result<Request, WordProblem>
     ensures asked { IfOk result (Asked words.now) }
 {
-    let mut scan = Scan::start();
-    for at in 0..words.len() {
-        scan = scan.step(heap, words[at].as_str(), at)?;
+    let said = scan::read::<CutOptions>(heap, words, 2)?;
+    match <[String; 2]>::try_from(said.names) {
+        Ok([file, folder]) => Ok(Request {
+            options: said.options,
+            file,
+            folder,
+        }),
+        Err(_names) => Err(WordProblem::WordCount(Verb::Cut)),
     }
-    if let Next::Value(setting) = scan.next {
-        return Err(WordProblem::Options(OptionProblem::NoValue(setting)));
-    }
-    let Names::Both(file, folder) = scan.names else {
-        return Err(WordProblem::WordCount(Verb::Cut));
-    };
-    let file = words[file].clone()?;
-    let folder = words[folder].clone()?;
-    Ok(Request {
-        options: scan.options,
-        file,
-        folder,
-    })
 }

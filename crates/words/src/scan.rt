@@ -1,14 +1,33 @@
-// Reads the words of `cut`: options and names in any order.
-ghost use Rattle.std.specs.Prelude.{◌≡◌, ◌<◌, IfOk};
+// Reads the words after a verb: options and names in any order.
+ghost use Rattle.std.specs.Prelude.{◌≡◌, ℕ, List, map, IfOk, string_bytes};
+ghost use Rattle.words.specs.declared.setting.Setting.{Setting};
 ghost use Rattle.words.specs.Named.{setting_word_of};
-ghost use Rattle.words.specs.Scans.{Opens, Places, Step, Takes, dashed, start};
+ghost use Rattle.words.specs.Scans.{Hears, Opens, Says, Takes, dashed, start};
 
 use crate::help::Verb;
+use crate::named::Named;
 use crate::option_problem::OptionProblem;
-use crate::options::CutOptions;
 use crate::setting::Setting;
 use crate::word_problem::WordProblem;
 use std::alloc::Global;
+
+// The options of a verb.
+pub trait Options: Copy {
+    // What holds where no option says otherwise.
+    ghost unset: { Self };
+
+    // What an option with a text makes of them.
+    ghost sets: { Setting → List ℕ → Self → Self → Type 0 };
+
+    const VERB: Verb;
+
+    fn given() -> Self
+        ensures value { result ≡ unset };
+
+    // The same with one option as a text writes it.
+    fn with(self, heap: Global, setting: Setting, value: &str) -> Result<Self, WordProblem>
+        ensures sets { IfOk result (λ p. sets setting value.now self p) };
+}
 
 // What the next word may be: any, the value of an option, or a name whatever it begins with.
 #[derive(Clone, Copy)]
@@ -18,81 +37,59 @@ pub enum Next {
     Name,
 }
 
-// Which words are the names of file and folder, by their places.
+// What the words say so far, but for the names.
 #[derive(Clone, Copy)]
-pub enum Names {
-    Neither,
-    File(usize),
-    Both(usize, usize),
-}
-
-// What the words say so far.
-#[derive(Clone, Copy)]
-pub struct Scan {
-    pub options: CutOptions,
+pub struct Scan<O> {
+    pub options: O,
     pub next: Next,
-    pub names: Names,
 }
 
-pub(crate) fn is_option(word: &[u8]) -> bool
+// What all words say.
+#[derive(Drop)]
+pub struct Said<O> {
+    pub options: O,
+    pub names: Vec<String>,
+}
+
+fn is_option(word: &[u8]) -> bool
     ensures value { result ≡ dashed word.now }
 {
     word.len() > 1 && word[0] == b'-'
 }
 
 // The option of the verb that a word names.
-pub(crate) fn setting_in(heap: Global, verb: Verb, word: &str) -> Result<Setting, WordProblem>
+fn setting_in(heap: Global, verb: Verb, word: &str) -> Result<Setting, WordProblem>
     ensures named { IfOk result (λ x. word.now ≡ setting_word_of x) }
 {
-    if let Some(setting) = Setting::named(word) {
-        if setting.is_of(verb) {
-            return Ok(setting);
-        }
+    match Setting::named(word) {
+        Some(setting) if setting.is_of(verb) => Ok(setting),
+        _ => Err(OptionProblem::Unknown(String::from_str(heap, word)?, verb).into()),
     }
-    Err(WordProblem::Options(OptionProblem::Unknown(String::from_str(heap, word)?, verb)))
 }
 
-impl Scan {
-    pub fn start() -> Scan
-        ensures value { result ≡ start }
+impl<O: Options> Scan<O> {
+    pub fn start() -> Scan<O>
+        ensures value { result ≡ start O.unset }
     {
         Scan {
-            options: CutOptions::given(),
+            options: O::given(),
             next: Next::Word,
-            names: Names::Neither,
         }
     }
 
-    fn set(self, heap: Global, setting: Setting, value: &str) -> Result<Scan, WordProblem>
-        ensures takes { IfOk result (λ t. Takes setting value.now self t) }
+    fn set(self, heap: Global, setting: Setting, value: &str) -> Result<Scan<O>, WordProblem>
+        ensures takes { IfOk result (λ t. Takes O.sets setting value.now self t) }
     {
         let options = self.options.with(heap, setting, value)?;
         Ok(Scan {
             options,
             next: Next::Word,
-            names: self.names,
         })
     }
 
-    fn name(self, at: usize) -> Result<Scan, WordProblem>
-        ensures places { IfOk result (λ t. Places at self t) }
-    {
-        match self.names {
-            Names::Neither => Ok(Scan {
-                names: Names::File(at),
-                ..self
-            }),
-            Names::File(file) => Ok(Scan {
-                names: Names::Both(file, at),
-                ..self
-            }),
-            Names::Both(_, _) => Err(WordProblem::WordCount(Verb::Cut)),
-        }
-    }
-
     // A word that begins with a dash.
-    fn option(self, heap: Global, word: &str) -> Result<Scan, WordProblem>
-        ensures opens { IfOk result (λ t. Opens word.now self t) }
+    fn option(self, heap: Global, word: &str) -> Result<Scan<O>, WordProblem>
+        ensures opens { IfOk result (λ t. Opens O.sets word.now self t) }
     {
         if word == "--" {
             return Ok(Scan {
@@ -102,11 +99,11 @@ impl Scan {
         }
         match word.split_once('=') {
             Some((name, value)) => {
-                let setting = setting_in(heap, Verb::Cut, name)?;
+                let setting = setting_in(heap, O::VERB, name)?;
                 self.set(heap, setting, value)
             }
             None => {
-                let setting = setting_in(heap, Verb::Cut, word)?;
+                let setting = setting_in(heap, O::VERB, word)?;
                 Ok(Scan {
                     next: Next::Value(setting),
                     ..self
@@ -115,20 +112,45 @@ impl Scan {
         }
     }
 
-    // One more word, the one at this place.
-    pub fn step(self, heap: Global, word: &str, at: usize) -> Result<Scan, WordProblem>
-        ensures step { IfOk result (λ t. Step word.now at self t) }
+    // What one more word says of the options, or None where it is a name.
+    pub fn hear(self, heap: Global, word: &str) -> Result<Option<Scan<O>>, WordProblem>
+        ensures hears { IfOk result (λ h. Hears O.sets word.now self h) }
     {
         match self.next {
-            Next::Value(setting) => self.set(heap, setting, word),
-            Next::Name => self.name(at),
+            Next::Value(setting) => Ok(Some(self.set(heap, setting, word)?)),
+            Next::Name => Ok(None),
             Next::Word => {
                 if is_option(word.as_bytes()) {
-                    self.option(heap, word)
+                    Ok(Some(self.option(heap, word)?))
                 } else {
-                    self.name(at)
+                    Ok(None)
                 }
             }
         }
     }
+}
+
+// What the words say that stand after a verb with these options. One more name than `most` is refused.
+pub fn read<O: Options>(heap: Global, words: &[String], most: usize) -> Result<Said<O>, WordProblem>
+    ensures says { IfOk result (λ r. Says O.unset O.sets words.now r.options (map string_bytes r.names.items)) }
+{
+    let mut scan = Scan::<O>::start();
+    let mut names = Vec::new(heap);
+    for word in words {
+        if let Some(more) = scan.hear(heap, word.as_str())? {
+            scan = more;
+            continue;
+        }
+        if names.len() == most {
+            return Err(WordProblem::WordCount(O::VERB));
+        }
+        names.push(word.clone()?)?;
+    }
+    if let Next::Value(setting) = scan.next {
+        return Err(OptionProblem::NoValue(setting).into());
+    }
+    Ok(Said {
+        options: scan.options,
+        names,
+    })
 }

@@ -1,8 +1,11 @@
 // The options of the verbs, as a user names them.
-ghost use Rattle.std.specs.Prelude.{◌≡◌, MatchOption, ◌≢◌};
+ghost use Rattle.std.specs.Prelude.{[], ◌∷◌, refl};
+ghost use Rattle.std.proofs.Common.{lit<};
+ghost use Rattle.words.specs.declared.setting.Setting.TheVariants.{Column, Field, Job, Need, Of, Place, Rows, Stamp, Value};
 ghost use Rattle.words.specs.Named.{setting_word_of};
 
 use crate::help::Verb;
+use crate::named::Named;
 
 #[derive(Clone, Copy)]
 pub enum Setting {
@@ -17,36 +20,26 @@ pub enum Setting {
     Value,
 }
 
-impl Setting {
-    pub fn named(word: &str) -> Option<Setting>
-        ensures cases { MatchOption result ((x : Setting) → word.now ≢ setting_word_of x) (λ x. word.now ≡ setting_word_of x) }
-    {
-        if word == "--field" {
-            Some(Setting::Field)
-        } else if word == "--rows" {
-            Some(Setting::Rows)
-        } else if word == "--need" {
-            Some(Setting::Need)
-        } else if word == "--of" {
-            Some(Setting::Of)
-        } else if word == "--job" {
-            Some(Setting::Job)
-        } else if word == "--stamp" {
-            Some(Setting::Stamp)
-        } else if word == "--column" {
-            Some(Setting::Column)
-        } else if word == "--place" {
-            Some(Setting::Place)
-        } else if word == "--value" {
-            Some(Setting::Value)
-        } else {
-            None
-        }
+impl Named for Setting {
+    ghost text = { setting_word_of };
+
+    ghost all = { Field ∷ Rows ∷ Need ∷ Of ∷ Job ∷ Stamp ∷ Column ∷ Place ∷ Value ∷ [] };
+
+    fn all() -> &'static [Setting] {
+        &[
+            Setting::Field,
+            Setting::Rows,
+            Setting::Need,
+            Setting::Of,
+            Setting::Job,
+            Setting::Stamp,
+            Setting::Column,
+            Setting::Place,
+            Setting::Value,
+        ]
     }
 
-    pub fn word(self) -> &'static str
-        ensures value { result.now ≡ setting_word_of self }
-    {
+    fn word(self) -> &'static str {
         match self {
             Setting::Field => "--field",
             Setting::Rows => "--rows",
@@ -60,6 +53,10 @@ impl Setting {
         }
     }
 
+    ghost whole = { elim [ Field ↦ (0, lit< tt, refl) | Rows ↦ (1, lit< tt, refl) | Need ↦ (2, lit< tt, refl) | Of ↦ (3, lit< tt, refl) | Job ↦ (4, lit< tt, refl) | Stamp ↦ (5, lit< tt, refl) | Column ↦ (6, lit< tt, refl) | Place ↦ (7, lit< tt, refl) | Value ↦ (8, lit< tt, refl) ] };
+}
+
+impl Setting {
     // Whether it is an option of the verb.
     pub fn is_of(self, verb: Verb) -> bool {
         match self {

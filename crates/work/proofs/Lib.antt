@@ -1,4 +1,3 @@
 pub mod Piecing
-pub mod Telling
 pub mod Wholes
 pub mod Readiness

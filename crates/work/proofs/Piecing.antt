@@ -1,19 +1,11 @@
--- Pieces one behind the other, and a piece at the front of a buffer. Assumes nothing.
-use Rattle.std.proofs.Common.{◌≡◌, ℕ, ◌+◌, ◌<◌, ◌≤◌, List, [], ◌∷◌, ◌++◌, length, get_or, take, drop, vec_items, Vec, sym, ap, ◌∙◌, subst, inl, inr, arith, length-append, length-drop}
-use lib.Seq.{take-append-le}
-use Rattle.std.proofs.lemmas.List.{take_all, length_push, get_or_push, get_or_append_left}
+-- Pieces one behind the other. Assumes nothing.
+use Rattle.std.proofs.Common.{◌≡◌, ℕ, ◌+◌, ◌<◌, List, [], ◌∷◌, ◌++◌, length, get_or, vec_items, Vec, sym, ap, ◌∙◌, subst, inl, inr, arith}
+use Rattle.std.proofs.lemmas.List.{length_push, get_or_push, get_or_append_left}
 use Rattle.std.proofs.lemmas.Bool.{cases_lt}
 use Rattle.field.specs.Laws.{Ops}
 use Rattle.piece.specs.declared.Settings.{Settings}
 use Rattle.piece.specs.Pieces.{piece}
 use Rattle.work.specs.Files.{Cuts}
-
--- what was written to the front of a buffer of which the rest stayed
-pub front : (p before after : List ℕ) (n : ℕ) → after ≡ p ++ drop n before → length after ≡ length before → n ≤ length after → take n after ≡ p
-front p before after n e l h =
-    let a : length after ≡ length p + length (drop n before) = ap length e ∙ length-append p (drop n before) in
-    let b : length p ≡ n = omega (arith, length-drop n before) in
-    ap (take n) e ∙ take-append-le n p (drop n before) (omega arith) ∙ take_all n p (omega arith)
 
 module _ {Z : Type 0} (K : Ops) (S : Settings) (jn st : ℕ) (job : List ℕ) where
   pub cuts_none : (ps : List (Vec ℕ Z)) → ps ≡ [] → Cuts K S jn st job 0 ps

@@ -12,7 +12,6 @@ use Rattle.words.specs.Named.{ops_of}
 use Rattle.work.specs.declared.held.Held.{Held}
 use Rattle.work.specs.declared.candidates.Told.{Told}
 use Rattle.work.specs.Told.{Ready, Tells, number_of, symbol_of}
-use Rattle.work.specs.Whole.{Whole}
 
 -- a body of n columns that has a value k
 before : (x : FieldName) (k n len : ℕ) → len ≡ bytes_for (ops_of x).width n → bytes_for (ops_of x).width (k + 1) ≤ len → k < n
@@ -25,18 +24,6 @@ byte Gf256 v h = omega arith
 byte Mod257 v h = omega arith
 
 module _ (ps : List Held) (k : ℕ) (t : Told) (T : Tells ps k t) (d : Held) where
-  W : (i : ℕ) (e : Held) → i < length ps → Whole (ops_of (get_or ps i e).field) (get_or ps i e).header (vec_items (get_or ps i e).body)
-  W i e h =
-      let p = get_or ps i e in
-      record {
-        lawful = record { kind = p.kind; some = p.some; needed = p.needed; enough = p.enough; made = p.made };
-        least = p.least;
-        most = p.most;
-        short = p.short;
-        long = p.long;
-        codes = p.codes;
-      }
-
   within : (r : ℕ) → r < t.settings.m - 1 → r < length ps
   within r h = let e = T.many in omega arith
 
@@ -53,16 +40,16 @@ module _ (ps : List Held) (k : ℕ) (t : Told) (T : Tells ps k t) (d : Held) whe
   told = ap length T.symbols ∙ length-map ps (symbol_of k) ∙ T.many
 
   lawful : Lawful t.settings
-  lawful = subst (λ (S : Settings). Lawful S) (sym (T.settings d)) (W 0 d T.some).lawful
+  lawful = subst (λ (S : Settings). Lawful S) (sym (T.settings d)) (get_or ps 0 d).whole.lawful
 
   least : (r : ℕ) → r < t.settings.m - 1 → 1 ≤ get_or (vec_items t.numbers) r 0
-  least r h = let l = within r h in subst (λ (x : ℕ). 1 ≤ x) (sym (number_at r l)) (W r d l).least
+  least r h = let l = within r h in subst (λ (x : ℕ). 1 ≤ x) (sym (number_at r l)) (get_or ps r d).whole.least
 
   most : (r : ℕ) → r < t.settings.m - 1 → get_or (vec_items t.numbers) r 0 ≤ t.settings.n
   most r h =
       let l = within r h in
-      let a : t.settings.n ≡ (get_or ps r d).header.settings.n = ap (λ (S : Settings). S.n) (T.settings d) ∙ (T.together r d l).n in
-      let b : number_of (get_or ps r d) ≤ (get_or ps r d).header.settings.n = (W r d l).most in
+      let a : t.settings.n ≡ (get_or ps r d).header.settings.n = ap (λ (S : Settings). S.n) (T.settings d ∙ (T.together r d l).settings) in
+      let b : number_of (get_or ps r d) ≤ (get_or ps r d).header.settings.n = (get_or ps r d).whole.most in
       let e = number_at r l in
       omega (arith, a, b, e)
 
@@ -73,9 +60,9 @@ module _ (ps : List Held) (k : ℕ) (t : Told) (T : Tells ps k t) (d : Held) whe
   codes r h =
       let l = within r h in
       let p = get_or ps r d in
-      let c : k < count p.header = before p.field k (count p.header) (length (vec_items p.body)) (W r d l).long (T.has r d l) in
+      let c : k < count p.header = before p.field k (count p.header) (length (vec_items p.body)) (get_or ps r d).whole.long (T.has r d l) in
       subst (λ (x : FieldName). get_or (vec_items t.symbols) r 0 < (ops_of x).order) (same_field r l)
-      (subst (λ (v : ℕ). v < (ops_of p.field).order) (sym (symbol_at r l)) ((W r d l).codes k c))
+      (subst (λ (v : ℕ). v < (ops_of p.field).order) (sym (symbol_at r l)) ((get_or ps r d).whole.codes k c))
 
   at : (p v : ℕ) → p < t.settings.m → v < 256 → InRange (ops_of t.field) t.settings (vec_items t.numbers) (vec_items t.symbols) p v t.settings.m
   at p v hp hv = record {

@@ -7,9 +7,6 @@ use Rattle.piece.specs.Bits.{value_in}
 use Rattle.piece.specs.Reading.{Accepts, GoodBody, count, header_in, sensible}
 use Rattle.piece.proofs.Fields.{fields, header_of}
 use Rattle.piece.proofs.Octets.{get_d_listed, length_listed}
-use Rattle.words.specs.declared.field_name.FieldName.{FieldName}
-use Rattle.words.specs.Named.{ops_of}
-use Rattle.work.specs.Opened.{named_in}
 use Rattle.work.specs.Whole.{Whole}
 
 all_four : (P : Type 0) (a b c d : Bool) → cond a (cond b (cond c d false) false) false ≡ true → (a ≡ true → b ≡ true → c ≡ true → d ≡ true → P) → P
@@ -45,8 +42,7 @@ module _ (K : Ops) (bytes : List ℕ) (small : (k : ℕ) → get_or bytes k 0 < 
       (at_fields l (ap sensible (sym eh) ∙ A.header) (subst (λ (H : Header). GoodBody K (count H) (drop 10 bytes)) eh A.body))
 
 -- the same of the parts that were read of them
-pub whole_as : (bytes : List ℕ) → ((k : ℕ) → get_or bytes k 0 < 256) → (x : FieldName) (H : Header) (body : List ℕ) → x ≡ named_in bytes → H ≡ header_in bytes → body ≡ drop 10 bytes → Accepts (ops_of (named_in bytes)) bytes → Whole (ops_of x) H body
-whole_as bytes small x H body ex eh eb A =
-    subst (λ (y : FieldName). Whole (ops_of y) H body) (sym ex)
-    (subst (λ (J : Header). Whole (ops_of (named_in bytes)) J body) (sym eh)
-    (subst (λ (b : List ℕ). Whole (ops_of (named_in bytes)) (header_in bytes) b) (sym eb) (whole (ops_of (named_in bytes)) bytes small A)))
+pub whole_as : (K : Ops) (bytes : List ℕ) → ((k : ℕ) → get_or bytes k 0 < 256) → (H : Header) (body : List ℕ) → H ≡ header_in bytes → body ≡ drop 10 bytes → Accepts K bytes → Whole K H body
+whole_as K bytes small H body eh eb A =
+    subst (λ (J : Header). Whole K J body) (sym eh)
+    (subst (λ (b : List ℕ). Whole K (header_in bytes) b) (sym eb) (whole K bytes small A))

@@ -29,9 +29,7 @@ Has k p = bytes_for (ops_of p.field).width (k + 1) ≤ length (vec_items p.body)
 -- both are pieces of one job that was cut once: all is equal but the numbers and the bodies
 pub record Agree (p q : Held) : Type 0 where
   pub field : p.field ≡ q.field
-  pub rows : p.header.settings.rows ≡ q.header.settings.rows
-  pub m : p.header.settings.m ≡ q.header.settings.m
-  pub n : p.header.settings.n ≡ q.header.settings.n
+  pub settings : p.header.settings ≡ q.header.settings
   pub long : p.header.length ≡ q.header.length
   pub job : p.header.job ≡ q.header.job
   pub stamp : p.header.stamp ≡ q.header.stamp
@@ -56,7 +54,7 @@ pub record Tells (ps : List Held) (k : ℕ) (t : Told) : Type 0 where
 
 -- each byte may be asked for at each place
 abbrev pub Ready : Told → Type 0
-Ready t = (p : ℕ) → p < t.settings.m → Asks t.field t.settings t.numbers t.symbols p
+Ready t = (p : ℕ) → p < t.settings.m → Asks t p
 
 -- why pieces tell nothing of the column k
 abbrev pub Unfits : List Held → ℕ → Unfit → Type 0
@@ -82,10 +80,5 @@ Unasked ps k place unfit.Memory = Unit {0}
 
 -- the question of this place, counted from 1, in the column k
 pub record Asked (ps : List Held) (k place : ℕ) (q : Question) : Type 0 where
-  pub told : Told
-  pub tells : Tells ps k told
-  pub field : q.field ≡ told.field
-  pub settings : q.settings ≡ told.settings
-  pub numbers : q.numbers ≡ told.numbers
-  pub symbols : q.symbols ≡ told.symbols
+  pub tells : Tells ps k q.told
   pub place_is : q.place + 1 ≡ place

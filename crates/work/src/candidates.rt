@@ -1,9 +1,8 @@
 // What m - 1 pieces leave open of a column.
-ghost use Rattle.std.specs.Prelude.{◌≡◌, ℕ, ◌+◌, ◌*◌, ◌<◌, ◌≤◌, true, false, ◌≢◌, ◌⊎◌, map, length, IfOk, IfErr, MatchOption, OnOk, OnSome, nat_lt, slice_index, slice_index_or};
+ghost use Rattle.std.specs.Prelude.{◌≡◌, ℕ, ◌+◌, ◌*◌, ◌<◌, ◌≤◌, true, false, ◌≢◌, ◌⊎◌, map, length, IfOk, IfErr, MatchOption, OnErr, OnOk, OnSome, nat_lt, slice_index, slice_index_or};
 ghost use Rattle.algebra.specs.Field.{Distinct};
 ghost use Rattle.piece.specs.Bits.{bytes_for, value_in};
-ghost use Rattle.piece.specs.Columns.{Candidate, InRange};
-ghost use Rattle.words.specs.Named.{ops_of};
+ghost use Rattle.work.specs.Questions.{Askable, Fitting};
 ghost use Rattle.work.specs.Told.{Agree, Asked, Has, Lacks, Ready, Tells, Together, Unasked, Unfits, number_of, symbol_of};
 
 use crate::held::Held;
@@ -13,7 +12,8 @@ use crate::unfit::{Common, Unfit};
 use field::Field;
 use field::gf256::Gf256;
 use field::mod257::Mod257;
-use piece::columns::candidate;
+use piece::columns::{Guess, OutOfRange, twice};
+use piece::kind::Rows;
 use piece::{Header, Settings, bits};
 use std::alloc::{AllocError, Global};
 use words::field_name::FieldName;
@@ -30,7 +30,7 @@ pub struct Told {
     pub symbols: Vec<u16>,
 }
 
-// The value of a column, where all up to it are unpacked into a buffer.
+// The value of a column, where all up to it are unpacked into a buffer: unpack writes to one of its caller.
 fn value_at(body: &[u8], width: u32, column: usize, values: &mut [u16]) -> u16
     requires wide { width ≤ 16 }
     requires many { length values.old ≡ column + 1 }
@@ -50,7 +50,7 @@ fn symbol<F: Field>(body: &[u8], column: usize) -> Option<u16>
         return None;
     }
     let width = F::width();
-    if body.len() < ((column + 1) * width as usize + 7) / 8 {
+    if body.len() < bits::bytes_for(width, column + 1) {
         return None;
     }
     let mut values = [0u16; MOST];
@@ -62,6 +62,7 @@ fn symbol_of(piece: &Held, column: usize) -> Option<u16>
     ensures found { MatchOption result (Lacks column piece.now) (λ v. v ≡ symbol_of column piece.now) }
     ensures within { OnSome result (Has column piece.now) }
 {
+    // A match stands here: a closure takes no type, and a visitor would be a struct and an impl for this call alone.
     match piece.field {
         FieldName::Gf256 => symbol::<Gf256>(piece.body.as_slice(), column),
         FieldName::Mod257 => symbol::<Mod257>(piece.body.as_slice(), column),
@@ -75,16 +76,13 @@ fn symbols(heap: Global, pieces: &[Held], column: usize) -> Result<Vec<u16>, Unf
     ensures refused { IfErr result (Unfits pieces.now column) }
 {
     let mut all = Vec::new(heap);
-    for i in 0..pieces.len() {
-        let Some(symbol) = symbol_of(&pieces[i], column) else {
-            return Err(Unfit::Column {
-                column,
-                columns: columns(&pieces[i].header),
-            });
+    // Not by try_collect: it does not say at which piece it fails, and `refused` has to.
+    for piece in pieces {
+        let Some(symbol) = symbol_of(piece, column) else {
+            let columns = columns(&piece.header);
+            return Err(Unfit::Column { column, columns });
         };
-        let Ok(()) = all.push(symbol) else {
-            return Err(Unfit::Memory);
-        };
+        all.push(symbol)?;
     }
     Ok(all)
 }
@@ -93,27 +91,17 @@ fn symbols(heap: Global, pieces: &[Held], column: usize) -> Result<Vec<u16>, Unf
 fn numbers(heap: Global, pieces: &[Held]) -> Result<Vec<u8>, AllocError>
     ensures numbers { IfOk result (λ v. v.items ≡ map number_of pieces.now) }
 {
-    let mut all = Vec::new(heap);
-    for i in 0..pieces.len() {
-        all.push(pieces[i].header.number)?;
-    }
-    Ok(all)
+    pieces.iter().map(|piece| piece.header.number).collect(heap)
 }
 
-// What two pieces do not have in common, if there is anything.
+// What two pieces do not have in common, if there is anything. Field by field: the first that differs is answered.
 fn difference(a: &Held, b: &Held) -> Option<Common>
     ensures agree { MatchOption result (Agree a.now b.now) (λ _. Agree a.now b.now → ⊥) }
 {
     if a.field != b.field {
         return Some(Common::Field);
     }
-    if a.header.settings.rows != b.header.settings.rows {
-        return Some(Common::Settings);
-    }
-    if a.header.settings.m != b.header.settings.m {
-        return Some(Common::Settings);
-    }
-    if a.header.settings.n != b.header.settings.n {
+    if a.header.settings != b.header.settings {
         return Some(Common::Settings);
     }
     if a.header.length != b.header.length {
@@ -132,34 +120,11 @@ fn difference(a: &Held, b: &Held) -> Option<Common>
 fn stranger(pieces: &[Held]) -> Option<(usize, Common)>
     ensures cases { MatchOption result (Together pieces.now) (λ x. (x.0 < length pieces.now) × ((d : Held) → Agree (slice_index_or pieces.now 0 d) (slice_index_or pieces.now x.0 d) → ⊥)) }
 {
-    for at in 0..pieces.len() {
-        if let Some(what) = difference(&pieces[0], &pieces[at]) {
+    let first = pieces.first()?;
+    // Not by enumerate and find_map: the check finds no proof.
+    for (at, piece) in pieces.iter().enumerate() {
+        if let Some(what) = difference(first, piece) {
             return Some((at, what));
-        }
-    }
-    None
-}
-
-// Where the number at an index stands before, if it does.
-fn earlier(numbers: &[u8], i: usize) -> Option<usize>
-    requires { i < length numbers.now }
-    ensures cases { MatchOption result ((k : ℕ) → k < i → slice_index numbers.now k ≢ slice_index numbers.now i) (λ k. (k < i) × (slice_index numbers.now k ≡ slice_index numbers.now i)) }
-{
-    for k in 0..i {
-        if numbers[k] == numbers[i] {
-            return Some(k);
-        }
-    }
-    None
-}
-
-// Where a number stands twice, if one does.
-fn twice(numbers: &[u8]) -> Option<(usize, usize)>
-    ensures cases { MatchOption result (Distinct (length numbers.now) (λ k. slice_index numbers.now k)) (λ x. (x.0 < x.1) × (x.1 < length numbers.now) × (slice_index numbers.now x.0 ≡ slice_index numbers.now x.1)) }
-{
-    for second in 0..numbers.len() {
-        if let Some(first) = earlier(numbers, second) {
-            return Some((first, second));
         }
     }
     None
@@ -171,37 +136,32 @@ fn tell(heap: Global, pieces: &[Held], column: usize) -> Result<Told, Unfit>
     ensures ready { IfOk result Ready }
     ensures refused { IfErr result (Unfits pieces.now column) }
 {
-    if pieces.len() == 0 {
+    let Some(head) = pieces.first() else {
         return Err(Unfit::NoPiece);
-    }
+    };
     if let Some((at, what)) = stranger(pieces) {
         return Err(Unfit::Differ { at, what });
     }
-    let field = pieces[0].field;
-    let settings = pieces[0].header.settings;
-    if settings.rows != 1 {
+    let settings = head.header.settings;
+    if settings.kind() != Ok(Rows::Cauchy) {
         return Err(Unfit::Rows);
     }
-    let needs = (settings.m as usize).saturating_sub(1);
+    let needs = usize::from(settings.m).saturating_sub(1);
     let given = pieces.len();
     if given != needs {
         return Err(Unfit::Count { needs, given });
     }
-    let Ok(numbers) = numbers(heap, pieces) else {
-        return Err(Unfit::Memory);
-    };
+    let numbers = numbers(heap, pieces)?;
     if let Some((first, second)) = twice(numbers.as_slice()) {
         return Err(Unfit::Twice { first, second });
     }
-    match symbols(heap, pieces, column) {
-        Ok(symbols) => Ok(Told {
-            field,
-            settings,
-            numbers,
-            symbols,
-        }),
-        Err(unfit) => Err(unfit),
-    }
+    let symbols = symbols(heap, pieces, column)?;
+    Ok(Told {
+        field: head.field,
+        settings,
+        numbers,
+        symbols,
+    })
 }
 
 // The index of a place that is counted from 1.
@@ -213,7 +173,7 @@ fn place_index(settings: Settings, place: u8) -> Result<usize, Unfit>
     if place == 0 || place > m {
         return Err(Unfit::Place { place, m });
     }
-    Ok(place as usize - 1)
+    Ok(usize::from(place) - 1)
 }
 
 // The question that pieces leave of a column, counted from 0, and a place, counted from 1.
@@ -221,44 +181,34 @@ pub fn ask(heap: Global, pieces: &[Held], column: usize, place: u8) -> Result<Qu
     ensures asked { IfOk result (Asked pieces.now column place) }
     ensures refused { IfErr result (Unasked pieces.now column place) }
 {
-    let told = match tell(heap, pieces, column) {
-        Ok(told) => told,
-        Err(unfit) => return Err(unfit),
-    };
-    let place = match place_index(told.settings, place) {
-        Ok(place) => place,
-        Err(unfit) => return Err(unfit),
-    };
-    Ok(Question {
-        field: told.field,
-        settings: told.settings,
-        numbers: told.numbers,
-        symbols: told.symbols,
-        place,
-    })
+    let told = tell(heap, pieces, column)?;
+    let place = place_index(told.settings, place)?;
+    Ok(Question { told, place })
 }
 
-// Writes the one column that has the value at the place and gives the symbols of the question. Answers whether it may be
-// asked for; where it may not, the column is left as it was.
-fn fit(question: &Question, value: u16, column: &mut [u16]) -> bool
-    ensures refused { result ≡ false → InRange (ops_of question.now.field) question.now.settings question.now.numbers.items question.now.symbols.items question.now.place value (length column.old) → ⊥ }
-    ensures fits { result ≡ true → Candidate (ops_of question.now.field) question.now.settings question.now.numbers.items question.now.symbols.items question.now.place value column.new }
-    ensures kept { result ≡ false → column.new ≡ column.old }
+// Writes the one column that has the value at the place and gives the symbols of the question. Where it may not be asked
+// for, the column is left as it was.
+fn fit(question: &Question, value: u16, column: &mut [u16]) -> Result<(), OutOfRange>
+    ensures refused { OnErr result (Askable question.now.told question.now.place value (length column.old) → ⊥) }
+    ensures fits { OnOk result (Fitting question.now.told question.now.place value column.new) }
+    ensures kept { OnErr result (column.new ≡ column.old) }
 {
-    let numbers = question.numbers.as_slice();
-    let symbols = question.symbols.as_slice();
-    let place = question.place;
-    match question.field {
-        FieldName::Gf256 => {
-            candidate::<Gf256>(question.settings, numbers, symbols, place, value, column)
-        }
-        FieldName::Mod257 => {
-            candidate::<Mod257>(question.settings, numbers, symbols, place, value, column)
-        }
+    let told = &question.told;
+    let guess = Guess {
+        settings: told.settings,
+        numbers: told.numbers.as_slice(),
+        symbols: told.symbols.as_slice(),
+        place: question.place,
+        value,
+    };
+    // A match stands here: a closure takes no type, and a visitor would be a struct and an impl for this call alone.
+    match told.field {
+        FieldName::Gf256 => guess.candidate::<Gf256>(column),
+        FieldName::Mod257 => guess.candidate::<Mod257>(column),
     }
 }
 
-// The same in memory of its own.
+// The same in memory of its own; the cells are a buffer of the caller, as `candidate` takes one.
 fn fitted(
     heap: Global,
     question: &Question,
@@ -266,21 +216,19 @@ fn fitted(
     cells: &mut [u16],
 ) -> Result<Vec<u16>, AllocError>
     requires byte { value < 256 }
-    requires room { length cells.old ≡ question.now.settings.m }
-    ensures fits { IfOk result (λ v. Candidate (ops_of question.now.field) question.now.settings question.now.numbers.items question.now.symbols.items question.now.place value v.items) }
+    requires room { length cells.old ≡ question.now.told.settings.m }
+    ensures fits { IfOk result (λ v. Fitting question.now.told question.now.place value v.items) }
 {
-    if !fit(question, value, cells) {
-        unreachable();
-    }
+    fit(question, value, cells).unwrap();
     Vec::from_slice(heap, cells)
 }
 
 // The one column that has the value at the place and gives the symbols of the question.
 pub fn column(heap: Global, question: &Question, value: u8) -> Result<Vec<u16>, AllocError>
-    ensures fits { IfOk result (λ v. Candidate (ops_of question.now.field) question.now.settings question.now.numbers.items question.now.symbols.items question.now.place value v.items) }
+    ensures fits { IfOk result (λ v. Fitting question.now.told question.now.place value v.items) }
 {
     let mut cells = [0u16; 16];
-    let m = question.settings.m as usize;
+    let m = usize::from(question.told.settings.m);
     fitted(heap, question, u16::from(value), &mut cells[0..m])
 }
 
@@ -288,5 +236,6 @@ pub fn column(heap: Global, question: &Question, value: u8) -> Result<Vec<u16>, 
 pub fn is_filled(header: &Header, column: u16) -> bool
     ensures value { result ≡ nat_lt header.now.length ((column + 1) * header.now.settings.m) }
 {
+    // Not by usize::from: the check finds no proof there that the product fits.
     (header.length as usize) < (column as usize + 1) * header.settings.m as usize
 }

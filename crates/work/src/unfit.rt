@@ -1,4 +1,8 @@
 // Why pieces leave no column to ask for.
+ghost use Rattle.std.specs.Prelude.{◌≡◌};
+ghost use Rattle.work.specs.declared.unfit.Unfit.TheVariants.{Memory};
+
+use std::alloc::{AllocError, AllocFailed};
 
 // What the pieces of a job have in common.
 #[derive(Clone, Copy)]
@@ -25,4 +29,20 @@ pub enum Unfit {
     // There is no such place.
     Place { place: u8, m: u8 },
     Memory,
+}
+
+impl From<AllocError> for Unfit {
+    ghost from_gives = { λ _ r. r ≡ Memory };
+
+    fn from(_e: AllocError) -> Unfit {
+        Unfit::Memory
+    }
+}
+
+impl<T: Drop> From<AllocFailed<T>> for Unfit {
+    ghost from_gives = { λ _ r. r ≡ Memory };
+
+    fn from(_e: AllocFailed<T>) -> Unfit {
+        Unfit::Memory
+    }
 }

@@ -1,4 +1,4 @@
-use Rattle.std.proofs.Common.{◌≤◌, length, sym, ap, ◌∙◌, arith, w32, SFits, rules}
+use Rattle.std.proofs.Common.{ℕ, ◌≤◌, pos, neg_ℤ, length, sym, ap, ◌∙◌, arith, w32, SFits, rules}
 use Rattle.std.proofs.lemmas.Int.{to_z_pos, to_z-of_z}
 use Rattle.capi.specs.Answered.{answered, asked}
 use Rattle.capi.proofs.Narrowed.{carried, short_piece}
@@ -23,8 +23,8 @@ returns-in-Err g c =
     let t = carried K c.args.rows c.args.m c.args.n c.args.number c.args.job_number c.args.stamp c.args.job.now c.args.out.now c.cut.new.out
     c.narrow.result c.narrow-2.result c.narrow-3.result c.narrow-4.result c.cut.result
     c.narrow.ensures c.narrow-2.ensures c.narrow-3.ensures c.narrow-4.ensures c.cut.ensures.answer c.cut.ensures.bytes in
-    let fits : SFits w32 c.refusal.result = search rules in
+    let fits : SFits w32 c.refused.result = search rules in
     record {
-      answer = to_z-of_z w32 c.refusal.result fits ∙ (c.refusal.ensures ∙ (ap answered (sym c.in-Err.is) ∙ t.0));
+      answer = to_z-of_z w32 c.refused.result fits ∙ (c.refused.ensures ∙ (ap (λ (n : ℕ). neg_ℤ (pos n)) c.number.ensures ∙ ap answered (sym c.in-Err.is) ∙ t.0));
       bytes = t.1;
     }

@@ -1,9 +1,9 @@
 // Which pieces a collection takes.
-ghost use Rattle.std.specs.Prelude.{◌≡◌, ℕ, ◌+◌, ◌-◌, ◌/◌, ◌<◌, ◌≤◌, true, false, ◌≢◌, List, length, drop, MatchResult, nat_le, slice_index};
+ghost use Rattle.std.specs.Prelude.{◌≡◌, ℕ, ◌+◌, ◌-◌, ◌/◌, ◌<◌, ◌≤◌, true, false, ◌≢◌, List, length, take, drop, MatchResult, nat_le, slice_index};
 ghost use Rattle.piece.specs.Pieces.{Lawful};
 ghost use Rattle.piece.specs.Reading.{Accepts, Headed, Refuses, count, header_in, number};
 ghost use Rattle.collection.specs.Adding.{Alike, RefusesPiece, Takes};
-ghost use Rattle.collection.specs.Books.{Follows, Grown, Hinders, in_open, places};
+ghost use Rattle.collection.specs.Books.{Follows, Grown, Hinders, first_in, in_open, places};
 ghost use Rattle.collection.specs.Collected.{For, blank};
 ghost use Rattle.collection.specs.Numbering.{Numbered};
 
@@ -15,56 +15,47 @@ use piece::fault::ReadFault;
 use piece::read::{Piece, columns, read};
 use piece::{Header, Settings};
 
+// The header of an empty job that is one piece: it stands for the first piece while there is none.
+const BLANK: Header = Header {
+    settings: Settings {
+        rows: 0,
+        m: 1,
+        n: 1,
+    },
+    number: 1,
+    length: 0,
+    job: 0,
+    stamp: 0,
+};
+
 // Whether two headers are of pieces of one deposit: all but the number is equal.
 fn alike(a: &Header, b: &Header) -> bool
     ensures yes { result ≡ true → Alike a.now b.now }
     ensures no { result ≡ false → Alike a.now b.now → ⊥ }
 {
-    a.settings.rows == b.settings.rows
-        && a.settings.m == b.settings.m
-        && a.settings.n == b.settings.n
-        && a.length == b.length
-        && a.job == b.job
-        && a.stamp == b.stamp
+    *a == Header {
+        number: a.number,
+        ..*b
+    }
 }
 
 // Whether the reader finds no header of its field: its refusals 6 and 7.
 fn finds_no_header(fault: &ReadFault) -> bool
     ensures { result ≡ nat_le (number fault.now) 7 }
 {
-    match fault {
-        ReadFault::Short { .. } | ReadFault::Field { .. } => true,
-        ReadFault::Header { .. } | ReadFault::Body { .. } | ReadFault::Value { .. } => false,
-    }
+    matches!(fault, ReadFault::Short { .. } | ReadFault::Field { .. })
 }
 
 impl Book {
     // The book of a collection that has no piece, for the field F.
     pub fn start<F: Field>() -> Book
         ensures field { For F.ops result.field }
-        ensures first { result.first ≡ blank }
+        ensures first { first_in result ≡ blank }
         ensures none { result.have ≡ 0 }
     {
-        let field = FieldNumbers {
-            code: F::code(),
-            order: F::order(),
-            width: F::width(),
-        };
-        let settings = Settings {
-            rows: 0,
-            m: 1,
-            n: 1,
-        };
-        let first = Header {
-            settings,
-            number: 1,
-            length: 0,
-            job: 0,
-            stamp: 0,
-        };
         Book {
-            field,
-            first,
+            field: FieldNumbers::of::<F>(),
+            first: None,
             numbers: [0; 16],
             have: 0,
         }
@@ -88,36 +79,43 @@ impl Book {
     pub fn needs(&self) -> u8
         ensures { result ≡ places self.now }
     {
-        self.first.settings.m
+        self.first().settings.m
+    }
+
+    // The header of the first piece, or the blank one while there is none.
+    fn first(&self) -> Header
+        ensures { result ≡ first_in self.now }
+    {
+        self.first.unwrap_or(BLANK)
     }
 
     // The settings that the pieces were cut with.
     pub fn settings(&self) -> Settings
-        ensures { result ≡ self.now.first.settings }
+        ensures { result ≡ (first_in self.now).settings }
     {
-        self.first.settings
+        self.first().settings
     }
 
     // The job's length in bytes.
     pub fn length(&self) -> usize
-        ensures { result ≡ self.now.first.length }
+        ensures { result ≡ (first_in self.now).length }
     {
-        self.first.length as usize
+        self.first().length as usize
     }
 
     // How many columns the job's symbols fill.
     pub fn columns(&self) -> usize
-        ensures { result ≡ count self.now.first }
+        ensures { result ≡ count (first_in self.now) }
     {
-        columns(&self.first)
+        columns(&self.first())
     }
 
-    // The number of the piece t.
-    pub fn number(&self, t: usize) -> u8
-        requires { t < self.now.have }
-        ensures { result ≡ slice_index self.now.numbers t }
+    // The numbers of the pieces, in the order in which they were taken.
+    pub fn numbers(&self) -> &[u8]
+        ensures value { result.now ≡ take self.now.have self.now.numbers }
+        ensures many { length result.now ≡ self.now.have }
     {
-        self.numbers[t]
+        &self.numbers[..self.have]
     }
 
     // Whether the collection is for the field F.
@@ -125,9 +123,7 @@ impl Book {
         ensures yes { result ≡ true → For F.ops self.now.field }
         ensures no { result ≡ false → For F.ops self.now.field → ⊥ }
     {
-        self.field.code == F::code()
-            && self.field.order == F::order()
-            && self.field.width == F::width()
+        self.field == FieldNumbers::of::<F>()
     }
 
     // Whether a piece of this number was taken.
@@ -135,34 +131,27 @@ impl Book {
         ensures yes { result ≡ true → ((t : ℕ) × (t < self.now.have) × (slice_index self.now.numbers t ≡ number)) }
         ensures no { result ≡ false → (t : ℕ) → t < self.now.have → slice_index self.now.numbers t ≢ number }
     {
-        for t in 0..self.have {
-            if self.numbers[t] == number {
-                return true;
-            }
-        }
-        false
+        self.numbers().contains(&number)
     }
 
     // Whether a piece with this header may follow those that were taken.
     fn follows(&self, header: &Header) -> Result<(), AddFault>
         ensures { MatchResult result (λ _. Follows self.now header.now) (λ f. Hinders self.now header.now f) }
     {
-        let m = self.first.settings.m;
+        let m = self.needs();
         if self.have >= m as usize {
             return Err(AddFault::Full { m });
         }
-        if self.have > 0 && !alike(&self.first, header) {
-            return Err(AddFault::Differs {
-                first: self.first,
+        match self.first {
+            Some(first) if !alike(&first, header) => Err(AddFault::Differs {
+                first,
                 piece: *header,
-            });
-        }
-        if self.has_number(header.number) {
-            return Err(AddFault::Again {
+            }),
+            _ if self.has_number(header.number) => Err(AddFault::Again {
                 number: header.number,
-            });
+            }),
+            _ => Ok(()),
         }
-        Ok(())
     }
 
     // Why a piece is refused by a collection for another field: the reader's refusal, where there is no header of the
@@ -173,14 +162,8 @@ impl Book {
     {
         let has = self.field;
         match read::<F>(bytes) {
-            Ok(_) => AddFault::Field { has },
-            Err(fault) => {
-                if finds_no_header(&fault) {
-                    AddFault::Reader(fault)
-                } else {
-                    AddFault::Field { has }
-                }
-            }
+            Err(fault) if finds_no_header(&fault) => AddFault::Reader(fault),
+            _ => AddFault::Field { has },
         }
     }
 
@@ -197,14 +180,6 @@ impl Book {
         Ok(piece)
     }
 
-    // The header of the first piece, where this is the next.
-    fn first_of(&self, header: &Header) -> Header
-        ensures none { self.now.have ≡ 0 → result ≡ header.now }
-        ensures some { 1 ≤ self.now.have → result ≡ self.now.first }
-    {
-        if self.have == 0 { *header } else { self.first }
-    }
-
     // The book with a piece of this header more.
     pub fn with(self, header: &Header) -> Book
         requires follows { Follows self header.now }
@@ -219,7 +194,7 @@ impl Book {
         numbers[have] = header.number;
         Book {
             field: self.field,
-            first: self.first_of(header),
+            first: Some(self.first.unwrap_or(*header)),
             numbers,
             have: have + 1,
         }

@@ -19,12 +19,9 @@ use crate::book::Book;
 use crate::closed::Closed;
 use crate::fault::{AddFault, CloseFault};
 use field::Field;
-use piece::Header;
 use piece::bits::unpack;
 use piece::read::columns;
-
-// The longest body, in symbols.
-const LONGEST: usize = 4096;
+use piece::{Header, LONGEST};
 
 // The longest row: 16 coefficients and as many symbols as a body has.
 const ROW: usize = 4112;
@@ -51,9 +48,7 @@ impl<'w> Open<'w> {
         ensures before { (i : ℕ) → i < from → slice_index self.new.work.now i ≡ slice_index self.old.work.now i }
         ensures laid { (k : ℕ) → k < length symbols.now → slice_index self.new.work.now (from + k) ≡ slice_index symbols.now k }
     {
-        for k in 0..symbols.len() {
-            self.work[from + k] = symbols[k];
-        }
+        self.work[from..from + symbols.len()].copy_from_slice(symbols);
     }
 
     // Takes a piece that was admitted; symbols is scratch for its symbols, and wiped.
@@ -93,8 +88,9 @@ impl<'w> Open<'w> {
         let book = self.book;
         let admitted = book.admit::<F>(piece)?;
         let count = columns(&admitted.header);
+        // Fixed scratch, of which the front is used: the library allocates nothing.
         let mut symbols = [0u16; LONGEST];
-        self.take::<F>(&admitted.header, admitted.body, &mut symbols[0..count]);
+        self.take::<F>(&admitted.header, admitted.body, &mut symbols[..count]);
         Ok(())
     }
 
@@ -123,14 +119,10 @@ impl<'w> Open<'w> {
         let Open { work, book } = self;
         let m = book.needs() as usize;
         let w = m + book.columns();
+        // Fixed scratch, of which the front is used: the library allocates nothing.
         let mut factors = [0u16; 16];
         let mut row = [0u16; ROW];
-        bring_back::<F>(
-            &book,
-            &mut work[0..m * w],
-            &mut factors[0..m],
-            &mut row[0..w],
-        );
+        bring_back::<F>(&book, &mut work[..m * w], &mut factors[..m], &mut row[..w]);
         Closed { work, book }
     }
 

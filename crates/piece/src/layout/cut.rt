@@ -1,29 +1,18 @@
 // Laying a job out, and cutting its pieces.
 ghost use Rattle.std.specs.Prelude.{◌≡◌, ℕ, ◌+◌, ◌-◌, ◌*◌, ◌/◌, ◌^◌, ◌<◌, ◌≤◌, true, ◌++◌, length, drop, Ok, Err, MatchResult, slice_index};
 ghost use Rattle.field.specs.Laws.{Codes};
-ghost use Rattle.piece.specs.Cutting.{cutting, is_in_range, job_of, laying, size, written};
+ghost use Rattle.piece.specs.Cutting.{cutting, job_of, laying, size, written};
 ghost use Rattle.piece.specs.Pieces.{entry, piece, place, value};
+ghost use Rattle.piece.specs.Schemes.{as_settings};
 
 use super::Layout;
-use crate::Settings;
-use crate::bits::pack;
+use crate::bits::{bytes_for, pack};
 use crate::entries::entries;
 use crate::fault::CutFault;
 use crate::head::write_header;
+use crate::scheme::Scheme;
+use crate::{Header, LONGEST, Settings};
 use field::Field;
-
-// The longest job.
-const LONGEST: usize = 4096;
-
-pub(crate) fn in_range(settings: Settings) -> bool
-    ensures { result ≡ is_in_range settings }
-{
-    settings.rows <= 1
-        && settings.m >= 1
-        && settings.m <= 16
-        && settings.m <= settings.n
-        && settings.n <= 32
-}
 
 // The row of the place j: its symbol in each column, and 0 past the job's end.
 fn lay_row(row: &mut [u16], job: &[u8], m: usize, j: usize)
@@ -31,9 +20,9 @@ fn lay_row(row: &mut [u16], job: &[u8], m: usize, j: usize)
     requires place { j < m }
     ensures { (k : ℕ) → k < length row.old → slice_index row.new k ≡ place m job.now k j }
 {
-    for k in 0..row.len() {
+    for (k, cell) in row.iter_mut().enumerate() {
         let i = k * m + j;
-        row[k] = if i < job.len() { job[i] as u16 } else { 0 };
+        *cell = job.get(i).map_or(0, |byte| *byte as u16);
     }
 }
 
@@ -45,6 +34,7 @@ fn lay_out(cells: &mut [u16], job: &[u8], m: usize, columns: usize)
     ensures laid { (k j : ℕ) → k < columns → j < m → slice_index cells.new (j * columns + k) ≡ place m job.now k j }
     ensures rest { (i : ℕ) → m * columns ≤ i → slice_index cells.new i ≡ slice_index cells.old i }
 {
+    // By index: of what is written through chunks_mut only the length is known.
     for j in 0..m {
         let from = j * columns;
         lay_row(&mut cells[from..from + columns], job, m, j);
@@ -56,31 +46,24 @@ fn size<F: Field>(columns: usize) -> usize
     requires { columns ≤ 4096 }
     ensures { result ≡ size F.ops columns }
 {
-    10 + (columns * F::width() as usize + 7) / 8
+    10 + bytes_for(F::width(), columns)
 }
 
 impl Layout {
     // Lays a job out. Refuses settings out of range, then a job that is too long.
     pub fn new(settings: Settings, job: &[u8]) -> Result<Layout, CutFault>
-        ensures { MatchResult result (λ l. (laying settings job.now ≡ Ok tt) × (l.settings ≡ settings) × (job_of l ≡ job.now)) (λ f. laying settings job.now ≡ Err f) }
+        ensures { MatchResult result (λ l. (laying settings job.now ≡ Ok tt) × (as_settings l.scheme ≡ settings) × (job_of l ≡ job.now)) (λ f. laying settings job.now ≡ Err f) }
     {
-        if !in_range(settings) {
-            return Err(CutFault::Settings {
-                rows: settings.rows,
-                m: settings.m,
-                n: settings.n,
-            });
-        }
+        let scheme = Scheme::try_from(settings)?;
         let length = job.len();
         if length > LONGEST {
             return Err(CutFault::Job { length });
         }
-        let m = settings.m as usize;
-        let columns = (length + (m - 1)) / m;
+        let columns = settings.columns(length);
         let mut cells = [0u16; 4111];
-        lay_out(&mut cells, job, m, columns);
+        lay_out(&mut cells, job, scheme.m as usize, columns);
         Ok(Layout {
-            settings,
+            scheme,
             length,
             columns,
             cells,
@@ -90,14 +73,14 @@ impl Layout {
     // The values of the piece of this number, one for each column; factors is scratch for the entries of its row.
     fn values<F: Field>(&self, values: &mut [u16], number: u8, factors: &mut [u16])
         requires least { 1 ≤ number }
-        requires most { number ≤ self.now.settings.n }
+        requires most { number ≤ self.now.scheme.n }
         requires columns { length values.old ≡ self.now.columns }
-        requires places { length factors.old ≡ self.now.settings.m }
+        requires places { length factors.old ≡ self.now.scheme.m }
         ensures codes { Codes F.ops.order values.new }
-        ensures value { (k : ℕ) → k < length values.new → slice_index values.new k ≡ value F.ops self.now.settings (job_of self.now) number k }
+        ensures value { (k : ℕ) → k < length values.new → slice_index values.new k ≡ value F.ops (as_settings self.now.scheme) (job_of self.now) number k }
     {
-        let all = self.settings.m as usize * self.columns;
-        entries::<F>(factors, self.settings, number);
+        let all = self.scheme.m as usize * self.columns;
+        entries::<F>(factors, self.scheme, number);
         F::combine(values, &self.cells[0..all], factors);
     }
 
@@ -110,10 +93,10 @@ impl Layout {
         stamp: u32,
         out: &mut [u8],
     ) -> Result<usize, CutFault>
-        ensures answer { result ≡ cutting F.ops self.now.settings (job_of self.now) number (length out.old) }
-        ensures bytes { out.new ≡ written result (piece F.ops self.now.settings number job_number stamp (job_of self.now)) out.old }
+        ensures answer { result ≡ cutting F.ops (as_settings self.now.scheme) (job_of self.now) number (length out.old) }
+        ensures bytes { out.new ≡ written result (piece F.ops (as_settings self.now.scheme) number job_number stamp (job_of self.now)) out.old }
     {
-        let n = self.settings.n;
+        let n = self.scheme.n;
         if number < 1 || number > n {
             return Err(CutFault::Number { number, n });
         }
@@ -122,7 +105,8 @@ impl Layout {
         if has < needs {
             return Err(CutFault::Room { has, needs });
         }
-        let m = self.settings.m as usize;
+        let m = self.scheme.m as usize;
+        // Fixed scratch, of which the front is used: the library allocates nothing.
         let mut values = [0u16; LONGEST];
         let mut factors = [0u16; 16];
         self.write::<F>(
@@ -148,27 +132,28 @@ impl Layout {
         factors: &mut [u16],
     )
         requires least { 1 ≤ number }
-        requires most { number ≤ self.now.settings.n }
+        requires most { number ≤ self.now.scheme.n }
         requires room { size F.ops self.now.columns ≤ length out.old }
         requires columns { length values.old ≡ self.now.columns }
-        requires places { length factors.old ≡ self.now.settings.m }
-        ensures { out.new ≡ piece F.ops self.now.settings number job_number stamp (job_of self.now) ++ drop (size F.ops self.now.columns) out.old }
+        requires places { length factors.old ≡ self.now.scheme.m }
+        ensures { out.new ≡ piece F.ops (as_settings self.now.scheme) number job_number stamp (job_of self.now) ++ drop (size F.ops self.now.columns) out.old }
     {
         self.values::<F>(values, number, factors);
-        write_header(
-            out,
-            F::code(),
-            self.settings,
+        // as, where it is proved to lose nothing: try_from with unwrap says no more.
+        let header = Header {
+            settings: self.scheme.into(),
             number,
-            self.length as u16,
-            job_number,
+            length: self.length as u16,
+            job: job_number,
             stamp,
-        );
+        };
+        write_header(out, F::code(), &header);
         pack(values, F::width(), &mut out[10..]);
     }
 }
 
-// Cuts one piece of a job: lays the job out, and writes the piece to the front of a buffer.
+// Cuts one piece of a job: lays the job out, and writes the piece to the front of a buffer. Number, job number and stamp
+// stand apart, as the callers across C have them; `write` joins them into a header.
 pub fn cut<F: Field>(
     settings: Settings,
     number: u8,

@@ -6,5 +6,5 @@ use Rattle.collection.proofs.join.feed.Given as goal
 abbrev pub invariant-loop-at : goal.invariant-loop-at
 invariant-loop-at g l =
     (l.collection.work.ghost_name ≡ l.initial.collection.work.ghost_name)
-    × Feeds g.F.Field.ops (opened l.initial.collection).room (bytes_in l.pieces) l.at
-    × (opened l.collection ≡ fed g.F.Field.ops (opened l.initial.collection).room (bytes_in l.pieces) l.at)
+    × Feeds g.F.Field.ops (opened l.initial.collection).room (bytes_in l.pieces) l.at-counter
+    × (opened l.collection ≡ fed g.F.Field.ops (opened l.initial.collection).room (bytes_in l.pieces) l.at-counter)

@@ -12,33 +12,6 @@ loop-i-init g c =
       combined_start g.Self.Field.ops (length c.fill.new.self) c.args.rows.now c.args.factors.now c.fill.new.self zeros,
     )
 
-pub bounds-factors-i : goal.bounds-factors-i
-bounds-factors-i g c =
-    let e : length c.fill.new.self ≡ length c.args.out.now = c.fill.ensures.len in
-    row_within c.loop-i.i (length c.args.factors.now) (length c.fill.new.self) (rw e (omega arith))
-
-pub mul-term-requires : goal.mul-term-requires
-mul-term-requires g c =
-    let e : length c.fill.new.self ≡ length c.args.out.now = c.fill.ensures.len in
-    let h : c.loop-i.i < length c.args.factors.now * length c.fill.new.self = rw e (omega arith) in
-    record {
-      left = c.requires.factors (c.loop-i.i / length c.fill.new.self) (row_within c.loop-i.i (length c.args.factors.now) (length c.fill.new.self) h);
-      right = c.requires.codes c.loop-i.i c.loop-i-test.true;
-    }
-
-pub add-requires : goal.add-requires
-add-requires g c =
-    let e : length c.fill.new.self ≡ length c.args.out.now = c.fill.ensures.len in
-    let h : c.loop-i.i < length c.args.factors.now * length c.fill.new.self = rw e (omega arith) in
-    let p = place_within c.loop-i.i (length c.args.factors.now) (length c.fill.new.self) h in
-    record {
-      left = c.loop-i.invariant.0 (c.loop-i.i % length c.fill.new.self) (omega arith);
-      right = rw c.mul-term.ensures
-          (g.met.Self.Field.laws.mul_below _ _
-          (c.requires.factors (c.loop-i.i / length c.fill.new.self) (row_within c.loop-i.i (length c.args.factors.now) (length c.fill.new.self) h))
-          (c.requires.codes c.loop-i.i c.loop-i-test.true));
-    }
-
 pub loop-i-preserved : goal.loop-i-preserved
 loop-i-preserved g c =
     let K = g.Self.Field.ops in
@@ -65,15 +38,12 @@ loop-i-preserved g c =
       combined_next K w c.args.rows.now c.args.factors.now i c.add.result c.loop-i.out (sym c.loop-i.auto.out) pos c.loop-i.invariant.1 v,
     )
 
-pub returns : goal.returns
-returns g c =
+pub returns-clause-value : goal.returns-clause-value
+returns-clause-value g c k h =
     let w : ℕ = length c.fill.new.self in
     let e : length c.fill.new.self ≡ length c.args.out.now = c.fill.ensures.len in
     let d : length c.loop-i.out ≡ w = c.loop-i.auto.out in
     let n : c.loop-i.i ≡ length c.args.rows.now = omega arith in
     let s : c.loop-i.i ≡ length c.args.factors.now * w = rw e (n ∙ c.requires.size) in
-    record {
-      codes = c.loop-i.invariant.0;
-      value = λ k h. combined_end g.Self.Field.ops w c.args.rows.now c.args.factors.now c.loop-i.i c.loop-i.out s (omega arith) c.loop-i.invariant.1 k (omega arith)
-          ∙ ap (λ (v : ℕ). combination g.Self.Field.ops v c.args.rows.now c.args.factors.now k) (sym d);
-    }
+    combined_end g.Self.Field.ops w c.args.rows.now c.args.factors.now c.loop-i.i c.loop-i.out s (omega arith) c.loop-i.invariant.1 k (omega arith)
+    ∙ ap (λ (v : ℕ). combination g.Self.Field.ops v c.args.rows.now c.args.factors.now k) (sym d)

@@ -9,5 +9,5 @@ invariant-loop-place g l =
     Codes g.D.Doubling.arith.order l.rows
     × Codes g.D.Doubling.arith.order l.row
     × ((i : ℕ) → i < length l.initial.rows
-    → left g.D.Doubling.arith (l.places - l.place) (get_or l.factors (i / length l.initial.row) 0 / 2 ^ l.place) (get_or l.rows i 0) (get_or l.row (i % length l.initial.row) 0)
+    → left g.D.Doubling.arith (l.place-end - l.place) (get_or l.factors (i / length l.initial.row) 0 / 2 ^ l.place) (get_or l.rows i 0) (get_or l.row (i % length l.initial.row) 0)
     ≡ g.D.Doubling.arith.add (get_or l.initial.rows i 0) (g.D.Doubling.arith.mul (get_or l.factors (i / length l.initial.row) 0) (get_or l.initial.row (i % length l.initial.row) 0)))

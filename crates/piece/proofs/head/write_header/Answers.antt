@@ -6,6 +6,6 @@ pub returns : goal.returns
 returns c =
     let ten : length c.copy_from_slice.new.self ≡ 10 = c.copy_from_slice.ensures.len ∙ length-take-le 10 c.args.out.now c.requires.room in
     record {
-      front = take-put_mid 0 10 c.args.out.now c.copy_from_slice.new.self 10 (omega arith) (omega arith) ∙ c.copy_from_slice.ensures.after ∙ c.head-bytes.ensures;
+      front = take-put_mid 0 10 c.args.out.now c.copy_from_slice.new.self 10 (omega arith) (omega arith) ∙ c.copy_from_slice.ensures.after ∙ c.head.ensures;
       rest = drop-put_mid 0 10 c.args.out.now c.copy_from_slice.new.self 10 (omega arith) (omega arith) ten;
     }

@@ -1,7 +1,7 @@
 use Rattle.std.proofs.Common.{◌≡◌, ℕ, ◌-◌, ◌<◌, ◌≤◌, length, get_or, take, drop, sym, ap, ◌∙◌, subst, arith, rules}
 use Rattle.piece.specs.declared.Header.{Header}
 use Rattle.piece.specs.Reading.{header_in, sensible}
-use Rattle.piece.proofs.Readings.{same_code, same_header, some, few, short_if_sensible, refused, accepted}
+use Rattle.piece.proofs.Readings.{same_code, same_header, some, few, refused, accepted}
 use Rattle.std.proofs.lemmas.List.{take_rest}
 use Rattle.std.proofs.lemmas.Result.{err_from_is_err_and}
 use Rattle.piece.proofs.read.read.Goals as goal
@@ -28,17 +28,21 @@ returns-then-not-is_sensible g c =
       ap sensible (sym h) ∙ sym c.if-not-is_sensible.ensures,
     )
 
-pub check_body-requires : goal.check_body-requires
-check_body-requires g c =
+pub check_body-requires-clause-some : goal.check_body-requires-clause-some
+check_body-requires-clause-some g c =
     let xs = c.args.piece.now in
     let l : 10 ≤ length xs = search rules in
     let small : (k : ℕ) → get_or xs k 0 < 256 = λ k. omega (arith, c.type_inv.piece k) in
     let h : c.split-code.result.1 ≡ header_in xs = c.split-code.ensures.header ∙ same_header xs l small in
-    record {
-      some = subst (λ (H : Header). 1 ≤ H.settings.m) (sym h) (some xs l small);
-      few = subst (λ (H : Header). H.settings.m ≤ 16) (sym h) (few xs l small);
-      short = short_if_sensible c.split-code.result.1 (sym c.if-not-is_sensible.ensures);
-    }
+    subst (λ (H : Header). 1 ≤ H.settings.m) (sym h) (some xs l small)
+
+pub check_body-requires-clause-few : goal.check_body-requires-clause-few
+check_body-requires-clause-few g c =
+    let xs = c.args.piece.now in
+    let l : 10 ≤ length xs = search rules in
+    let small : (k : ℕ) → get_or xs k 0 < 256 = λ k. omega (arith, c.type_inv.piece k) in
+    let h : c.split-code.result.1 ≡ header_in xs = c.split-code.ensures.header ∙ same_header xs l small in
+    subst (λ (H : Header). H.settings.m ≤ 16) (sym h) (few xs l small)
 
 pub returns-in_err-check_body : goal.returns-in_err-check_body
 returns-in_err-check_body g c =

@@ -2,7 +2,6 @@ use Rattle.std.proofs.Common.{sym, refl, ◌∙◌, subst, arith}
 use Rattle.collection.specs.Back.{job_in}
 use Rattle.collection.specs.Collected.{For}
 use Rattle.collection.proofs.Books.{closed_field, closed_length}
-use Rattle.collection.proofs.Closing.{rows_fit}
 use Rattle.collection.proofs.Fitting.{fits_whole, whole_fits}
 use Rattle.collection.proofs.closed.Closed.can_hand_over.Goals as goal
 
@@ -21,9 +20,6 @@ returns-then-has-needs g c =
       c.length-needs.ensures ∙ sym (closed_length K o.book o.work.now o.full),
       c.if-has-needs.true,
     )
-
-pub is_job-requires : goal.is_job-requires
-is_job-requires g c = let o = c.args.self.now in record { room = omega (arith, rows_fit o.book, o.room) }
 
 pub returns-then-not-is_job : goal.returns-then-not-is_job
 returns-then-not-is_job g c =

@@ -1,14 +1,14 @@
-use Rattle.std.proofs.Common.{ℕ, ◌≤◌, List, drop, sym, refl, ap, ◌∙◌, subst, arith, rules}
+use Rattle.std.proofs.Common.{ℕ, ◌≤◌, List, drop, sym, refl, ap, ◌∙◌, subst, arith}
 use Rattle.piece.specs.declared.Header.{Header}
 use Rattle.piece.specs.Layouts.{Bytes}
 use Rattle.piece.specs.Reading.{GoodBody, count}
-use Rattle.piece.proofs.Laying.{front_length}
 use Rattle.piece.proofs.Ranges.{columns_few}
 use Rattle.collection.specs.Books.{Follows}
 use Rattle.collection.specs.Collected.{taking, with_piece}
 use Rattle.collection.specs.Opened.{opened}
 use Rattle.collection.proofs.Admitted.{SoundHeader, sound_header}
 use Rattle.collection.proofs.Books.{open_room, takes}
+use Rattle.collection.proofs.Closing.{scratch_length}
 use Rattle.collection.proofs.open.Open.add.Goals as goal
 
 pub returns-then-has-lt-WORK : goal.returns-then-has-lt-WORK
@@ -26,16 +26,6 @@ columns-count-requires g c =
     let u : Bytes xs = λ k _. omega (arith, c.type_inv.piece k) in
     let s = sound_header g.F.Field.ops g.met.F.Field.bounds xs u a.1 in
     subst (λ (h : Header). 1 ≤ h.settings.m) (sym a.3) s.lawful.some
-
-pub slice_bounds-symbols-end : goal.slice_bounds-symbols-end
-slice_bounds-symbols-end g c =
-    let xs = c.args.piece.now in
-    let a = c.in_ok-admitted.ensures in
-    let u : Bytes xs = λ k _. omega (arith, c.type_inv.piece k) in
-    let s = subst SoundHeader (sym a.3) (sound_header g.F.Field.ops g.met.F.Field.bounds xs u a.1) in
-    let h = c.in_ok-admitted.admitted.header in
-    let few : c.columns-count.result ≤ 4096 = rw c.columns-count.ensures (columns_few h.settings.m h.length s.lawful.some 4096 s.short) in
-    search rules
 
 pub take-requires : goal.take-requires
 take-requires g c =
@@ -55,7 +45,7 @@ take-requires g c =
       most = s.most;
       short = s.short;
       body = subst (λ (B : List ℕ). GoodBody K (count h) B) (sym a.4) (subst (λ (x : Header). GoodBody K (count x) (drop 10 xs)) (sym a.3) a.1.body);
-      symbols = front_length 4096 c.columns-count.result few ∙ c.columns-count.ensures;
+      symbols = scratch_length 4096 c.columns-count.result few ∙ c.columns-count.ensures;
     }
 
 pub returns : goal.returns

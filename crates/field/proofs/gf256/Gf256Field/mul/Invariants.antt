@@ -3,5 +3,5 @@ use lib.Bits.{bit_xor}
 use Rattle.field.specs.Gf256.{over_bits, xtime, times}
 use Rattle.field.proofs.gf256.Gf256Field.mul.Given as goal
 
-abbrev pub invariant-loop-i : goal.invariant-loop-i
-invariant-loop-i l = (l.x < 256) × (bit_xor l.r (over_bits xtime (8 - l.i) l.x l.y) ≡ times l.a l.b)
+abbrev pub invariant-loop : goal.invariant-loop
+invariant-loop l = (l.x < 256) × (bit_xor l.r (over_bits xtime (8 - l.counter) l.x l.y) ≡ times l.a l.b)

@@ -2,7 +2,7 @@ use Rattle.std.proofs.Common.{◌≡◌, ℕ, ◌<◌, ◌≤◌, get_or}
 use Rattle.field.specs.Mod257.{mod257}
 use Rattle.field.proofs.mod257.Mod257Doubling.double_row.Given as goal
 
-abbrev pub invariant-loop-k : goal.invariant-loop-k
-invariant-loop-k l =
-    ((i : ℕ) → i < l.k → get_or l.row i 0 ≡ mod257.mul 2 (get_or l.initial.row i 0))
-    × ((i : ℕ) → l.k ≤ i → get_or l.row i 0 ≡ get_or l.initial.row i 0)
+abbrev pub invariant-loop-x : goal.invariant-loop-x
+invariant-loop-x l =
+    ((i : ℕ) → i < l.x-index → get_or l.row i 0 ≡ mod257.mul 2 (get_or l.initial.row i 0))
+    × ((i : ℕ) → l.x-index ≤ i → get_or l.row i 0 ≡ get_or l.initial.row i 0)
