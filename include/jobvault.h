@@ -4,7 +4,7 @@
  * and link.
  *
  * The functions hold no state, allocate nothing and do no input or output. Any number of threads may call them at
- * once, as long as no call's `out`, `work` or `job` is in use by another. A call takes about 17 KB of stack.
+ * once, as long as no call's `out`, `work` or `job` is in use by another. A call takes about 20 KB of stack.
  */
 #ifndef JOBVAULT_H
 #define JOBVAULT_H
