@@ -9,7 +9,7 @@ ghost use Rattle.collection.specs.Collected.{For};
 use crate::book::Book;
 use algebra::eliminate;
 use field::Field;
-use piece::entries::entries;
+use piece::entries::entries_of;
 use piece::scheme::Scheme;
 
 // Writes the coefficients of each piece in front of its symbols.
@@ -24,7 +24,7 @@ fn lay_entries<F: Field>(book: &Book, rows: &mut [u16])
     // By index: of what is written through chunks_mut only the length is known.
     for (t, number) in book.numbers().iter().enumerate() {
         let from = t * w;
-        entries::<F>(&mut rows[from..from + m], scheme, *number);
+        entries_of::<F>(&mut rows[from..from + m], scheme, *number);
     }
 }
 

@@ -9,7 +9,7 @@ ghost use Rattle.piece.specs.Pieces.{entry};
 ghost use Rattle.piece.specs.Schemes.{as_settings};
 
 use crate::Settings;
-use crate::entries::entries;
+use crate::entries::entries_of;
 use crate::kind::Rows;
 use crate::scheme::Scheme;
 use algebra::eliminate;
@@ -116,7 +116,7 @@ fn read_piece<F: Field>(row: &mut [u16], scheme: Scheme, number: u8, symbol: u16
     ensures symbol { slice_index row.new scheme.m ≡ symbol }
 {
     let m = scheme.m as usize;
-    entries::<F>(&mut row[..m], scheme, number);
+    entries_of::<F>(&mut row[..m], scheme, number);
     row[m] = symbol;
 }
 

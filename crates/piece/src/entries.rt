@@ -2,9 +2,10 @@
 ghost use Rattle.std.specs.Prelude.{◌≡◌, ℕ, ◌+◌, ◌-◌, ◌<◌, ◌≤◌, length, slice_index};
 ghost use Rattle.field.specs.Laws.{Codes};
 ghost use Rattle.algebra.specs.Codes.{power};
-ghost use Rattle.piece.specs.Pieces.{entry};
+ghost use Rattle.piece.specs.Pieces.{Lawful, entry};
 ghost use Rattle.piece.specs.Schemes.{as_settings};
 
+use crate::Settings;
 use crate::kind::Rows;
 use crate::scheme::Scheme;
 use field::Field;
@@ -38,8 +39,8 @@ fn inverses<F: Field>(factors: &mut [u16], point: u16)
     }
 }
 
-// The entries of the piece of this number, one for each place.
-pub fn entries<F: Field>(factors: &mut [u16], scheme: Scheme, number: u8)
+// The entries of the piece of this number, one for each place, where the settings are in range by their type.
+pub fn entries_of<F: Field>(factors: &mut [u16], scheme: Scheme, number: u8)
     requires least { 1 ≤ number }
     requires most { number ≤ scheme.n }
     requires places { length factors.old ≡ scheme.m }
@@ -50,4 +51,16 @@ pub fn entries<F: Field>(factors: &mut [u16], scheme: Scheme, number: u8)
         Rows::Vandermonde => powers::<F>(factors, number as u16),
         Rows::Cauchy => inverses::<F>(factors, scheme.m as u16 + number as u16 - 1),
     }
+}
+
+// The entries of the piece of this number, one for each place, of settings that are known to be in range.
+pub fn entries<F: Field>(factors: &mut [u16], settings: Settings, number: u8)
+    requires lawful { Lawful settings }
+    requires least { 1 ≤ number }
+    requires most { number ≤ settings.n }
+    requires places { length factors.old ≡ settings.m }
+    ensures codes { Codes F.ops.order factors.new }
+    ensures value { (j : ℕ) → j < settings.m → slice_index factors.new j ≡ entry F.ops settings number j }
+{
+    entries_of::<F>(factors, Scheme::of(settings), number);
 }

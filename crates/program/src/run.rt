@@ -83,8 +83,8 @@ pub fn run(rt: &HostRuntime, menu: Menu, command: Command) -> Result<ExitCode, P
         Command::Times(field, a, b) => show_product(rt, field, a, b)?,
         Command::Inverse(field, a) => show_inverse(rt, field, a)?,
         Command::Cut(request) => run_cut::run(rt, &request)?,
-        Command::Show(files) => return run_show::run(rt, files.as_slice()),
-        Command::Candidates(inquiry) => run_candidates::run(rt, &inquiry)?,
+        Command::Show(files) => return run_show::run(rt, menu, files.as_slice()),
+        Command::Candidates(inquiry) => run_candidates::run(rt, menu, &inquiry)?,
     }
     Ok(ExitCode::SUCCESS)
 }

@@ -1,10 +1,15 @@
 // Carries out `candidates`.
+ghost use Rattle.std.specs.Prelude.{◌≡◌, true};
+ghost use Rattle.words.specs.Menus.{lists};
+ghost use Rattle.words.specs.declared.help.Verb.TheVariants.{Candidates};
+
 use crate::pieces;
 use crate::problem::Problem;
 use std::io;
 use texts::cells::Cells;
 use words::field_name::FieldName;
 use words::inquiry::Inquiry;
+use words::menu::Menu;
 use work::candidates;
 use work::held::Held;
 use work::question::Question;
@@ -48,7 +53,10 @@ fn show_columns(rt: &HostRuntime, inquiry: &Inquiry, question: &Question) -> Res
     Ok(())
 }
 
-pub fn run(rt: &HostRuntime, inquiry: &Inquiry) -> Result<(), Problem> {
+// Only where the verb is on the menu.
+pub fn run(rt: &HostRuntime, menu: Menu, inquiry: &Inquiry) -> Result<(), Problem>
+    requires { lists menu Candidates ≡ true }
+{
     let heap = rt.alloc();
     let files = inquiry.pieces.as_slice();
     let pieces = pieces::read(rt, files)?;

@@ -1,9 +1,14 @@
 // Carries out `show`.
+ghost use Rattle.std.specs.Prelude.{◌≡◌, true};
+ghost use Rattle.words.specs.Menus.{lists};
+ghost use Rattle.words.specs.declared.help.Verb.TheVariants.{Show};
+
 use crate::problem::Problem;
 use files::read;
 use std::io;
 use std::process::ExitCode;
 use texts::grouped::Counted;
+use words::menu::Menu;
 use words::named::Named;
 use work::open;
 use work::open::Opened;
@@ -44,8 +49,10 @@ fn show(rt: &HostRuntime, file: &String) -> Result<ExitCode, Problem> {
     }
 }
 
-// Shows each file that is a piece, and says of each other one why it is none.
-pub fn run(rt: &HostRuntime, files: &[String]) -> Result<ExitCode, Problem> {
+// Shows each file that is a piece, and says of each other one why it is none. Only where the verb is on the menu.
+pub fn run(rt: &HostRuntime, menu: Menu, files: &[String]) -> Result<ExitCode, Problem>
+    requires { lists menu Show ≡ true }
+{
     let mut code = ExitCode::SUCCESS;
     for file in files {
         if show(rt, file)? == ExitCode::FAILURE {

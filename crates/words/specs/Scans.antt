@@ -14,6 +14,15 @@ dashed w = nat_lt 1 (length w) && slice_index w 0 == 45
 abbrev pub start : {O : Type 0} → O → Scan O
 start o = record { options = o; next = next.Word }
 
+-- where a value comes next, it is that of an option that is taken
+abbrev pub Owns : {O : Type 0} → (Setting → Bool) → Scan O → Type 0
+Owns takes s = (x : Setting) → s.next ≡ next.Value x → takes x ≡ true
+
+-- what is heard of the options, if anything is
+abbrev pub HearsOwn : {O : Type 0} → (Setting → Bool) → Option (Scan O) → Type 0
+HearsOwn takes None = Unit {0}
+HearsOwn takes (Some s) = Owns takes s
+
 -- what is so far, and the names, after a word: a name where nothing else is heard
 abbrev pub After : {O : Type 0} → Option (Scan O) → List ℕ → Scan O → List (List ℕ) → Scan O → List (List ℕ) → Type 0
 After None w s ms t ns = (t ≡ s) × (ns ≡ ms ++ (w ∷ []))

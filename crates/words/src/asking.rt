@@ -1,6 +1,7 @@
 // What the options of `candidates` say.
 ghost use Rattle.std.specs.Prelude.{◌≡◌, IfOk};
 ghost use Rattle.words.specs.Askings.{Wants, unasked};
+ghost use Rattle.words.specs.Menus.{inquires};
 
 use crate::help::Verb;
 use crate::named::Named;
@@ -24,7 +25,13 @@ impl Options for Wanted {
 
     ghost sets = { Wants };
 
+    ghost takes = { inquires };
+
     const VERB: Verb = Verb::Candidates;
+
+    fn has(setting: Setting) -> bool {
+        setting.is_of(Verb::Candidates)
+    }
 
     fn given() -> Wanted {
         Wanted {

@@ -11,7 +11,7 @@ pub mod named;
 pub mod option_problem;
 pub mod options;
 pub mod request;
-mod rows_name;
+pub mod rows_name;
 pub mod scan;
 pub mod setting;
 pub mod word_problem;

@@ -1,6 +1,7 @@
 // How a job is to be cut, as the options say.
 ghost use Rattle.std.specs.Prelude.{◌≡◌, IfOk};
 ghost use Rattle.words.specs.Options.{Number, Sets, given, settings_of};
+ghost use Rattle.words.specs.Menus.{cuts};
 ghost use Rattle.words.specs.Named.{rows_word_of, word_of};
 
 use crate::code;
@@ -62,7 +63,13 @@ impl Options for CutOptions {
 
     ghost sets = { Sets };
 
+    ghost takes = { cuts };
+
     const VERB: Verb = Verb::Cut;
+
+    fn has(setting: Setting) -> bool {
+        setting.is_of(Verb::Cut)
+    }
 
     fn given() -> CutOptions {
         CutOptions {

@@ -1,8 +1,8 @@
 // Reads the words after a verb: options and names in any order.
-ghost use Rattle.std.specs.Prelude.{◌≡◌, ℕ, List, map, IfOk, string_bytes};
+ghost use Rattle.std.specs.Prelude.{◌≡◌, ℕ, ◌≤◌, Bool, true, List, [], ◌∷◌, ◌++◌, map, length, IfOk, OnOk, string_bytes};
 ghost use Rattle.words.specs.declared.setting.Setting.{Setting};
 ghost use Rattle.words.specs.Named.{setting_word_of};
-ghost use Rattle.words.specs.Scans.{Hears, Opens, Says, Takes, dashed, start};
+ghost use Rattle.words.specs.Scans.{Hears, HearsOwn, Opens, Owns, Says, Takes, dashed, start};
 
 use crate::help::Verb;
 use crate::named::Named;
@@ -19,7 +19,13 @@ pub trait Options: Copy {
     // What an option with a text makes of them.
     ghost sets: { Setting → List ℕ → Self → Self → Type 0 };
 
+    // Which options these are.
+    ghost takes: { Setting → Bool };
+
     const VERB: Verb;
+
+    fn has(setting: Setting) -> bool
+        ensures value { result ≡ takes setting };
 
     fn given() -> Self
         ensures value { result ≡ unset };
@@ -57,13 +63,14 @@ fn is_option(word: &[u8]) -> bool
     word.len() > 1 && word[0] == b'-'
 }
 
-// The option of the verb that a word names.
-fn setting_in(heap: Global, verb: Verb, word: &str) -> Result<Setting, WordProblem>
+// The option that a word names, of these.
+fn setting_in<O: Options>(heap: Global, word: &str) -> Result<Setting, WordProblem>
     ensures named { IfOk result (λ x. word.now ≡ setting_word_of x) }
+    ensures listed { IfOk result (λ x. O.takes x ≡ true) }
 {
     match Setting::named(word) {
-        Some(setting) if setting.is_of(verb) => Ok(setting),
-        _ => Err(OptionProblem::Unknown(String::from_str(heap, word)?, verb).into()),
+        Some(setting) if O::has(setting) => Ok(setting),
+        _ => Err(OptionProblem::Unknown(String::from_str(heap, word)?, O::VERB).into()),
     }
 }
 
@@ -90,6 +97,7 @@ impl<O: Options> Scan<O> {
     // A word that begins with a dash.
     fn option(self, heap: Global, word: &str) -> Result<Scan<O>, WordProblem>
         ensures opens { IfOk result (λ t. Opens O.sets word.now self t) }
+        ensures listed { IfOk result (Owns O.takes) }
     {
         if word == "--" {
             return Ok(Scan {
@@ -99,11 +107,11 @@ impl<O: Options> Scan<O> {
         }
         match word.split_once('=') {
             Some((name, value)) => {
-                let setting = setting_in(heap, O::VERB, name)?;
+                let setting = setting_in::<O>(heap, name)?;
                 self.set(heap, setting, value)
             }
             None => {
-                let setting = setting_in(heap, O::VERB, word)?;
+                let setting = setting_in::<O>(heap, word)?;
                 Ok(Scan {
                     next: Next::Value(setting),
                     ..self
@@ -115,6 +123,7 @@ impl<O: Options> Scan<O> {
     // What one more word says of the options, or None where it is a name.
     pub fn hear(self, heap: Global, word: &str) -> Result<Option<Scan<O>>, WordProblem>
         ensures hears { IfOk result (λ h. Hears O.sets word.now self h) }
+        ensures own { IfOk result (HearsOwn O.takes) }
     {
         match self.next {
             Next::Value(setting) => Ok(Some(self.set(heap, setting, word)?)),
@@ -130,8 +139,21 @@ impl<O: Options> Scan<O> {
     }
 }
 
+// Notes one more name, or refuses it at once where there are as many as the verb takes.
+fn note(names: &mut Vec<String>, word: &String, most: usize, verb: Verb) -> Result<(), WordProblem>
+    ensures few { OnOk result (length names.new.items ≤ most) }
+    ensures noted { OnOk result (map string_bytes names.new.items ≡ map string_bytes names.old.items ++ (string_bytes word.now ∷ [])) }
+{
+    if names.len() >= most {
+        return Err(WordProblem::WordCount(verb));
+    }
+    names.push(word.clone()?)?;
+    Ok(())
+}
+
 // What the words say that stand after a verb with these options. One more name than `most` is refused.
 pub fn read<O: Options>(heap: Global, words: &[String], most: usize) -> Result<Said<O>, WordProblem>
+    ensures few { IfOk result (λ r. length r.names.items ≤ most) }
     ensures says { IfOk result (λ r. Says O.unset O.sets words.now r.options (map string_bytes r.names.items)) }
 {
     let mut scan = Scan::<O>::start();
@@ -141,10 +163,7 @@ pub fn read<O: Options>(heap: Global, words: &[String], most: usize) -> Result<S
             scan = more;
             continue;
         }
-        if names.len() == most {
-            return Err(WordProblem::WordCount(O::VERB));
-        }
-        names.push(word.clone()?)?;
+        note(&mut names, word, most, O::VERB)?;
     }
     if let Next::Value(setting) = scan.next {
         return Err(OptionProblem::NoValue(setting).into());

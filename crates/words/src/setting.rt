@@ -1,7 +1,8 @@
 // The options of the verbs, as a user names them.
-ghost use Rattle.std.specs.Prelude.{[], ◌∷◌, refl};
+ghost use Rattle.std.specs.Prelude.{◌≡◌, [], ◌∷◌, refl};
 ghost use Rattle.std.proofs.Common.{lit<};
 ghost use Rattle.words.specs.declared.setting.Setting.TheVariants.{Column, Field, Job, Need, Of, Place, Rows, Stamp, Value};
+ghost use Rattle.words.specs.Menus.{has_option};
 ghost use Rattle.words.specs.Named.{setting_word_of};
 
 use crate::help::Verb;
@@ -58,7 +59,9 @@ impl Named for Setting {
 
 impl Setting {
     // Whether it is an option of the verb.
-    pub fn is_of(self, verb: Verb) -> bool {
+    pub fn is_of(self, verb: Verb) -> bool
+        ensures { result ≡ has_option verb self }
+    {
         match self {
             Setting::Field
             | Setting::Rows

@@ -7,7 +7,7 @@ ghost use Rattle.piece.specs.Schemes.{as_settings};
 
 use super::Layout;
 use crate::bits::{bytes_for, pack};
-use crate::entries::entries;
+use crate::entries::entries_of;
 use crate::fault::CutFault;
 use crate::head::write_header;
 use crate::scheme::Scheme;
@@ -80,7 +80,7 @@ impl Layout {
         ensures value { (k : ℕ) → k < length values.new → slice_index values.new k ≡ value F.ops (as_settings self.now.scheme) (job_of self.now) number k }
     {
         let all = self.scheme.m as usize * self.columns;
-        entries::<F>(factors, self.scheme, number);
+        entries_of::<F>(factors, self.scheme, number);
         F::combine(values, &self.cells[0..all], factors);
     }
 
